@@ -1,0 +1,11 @@
+pub mod Lists
+pub mod Shares
+pub mod Rows
+pub mod Providers
+pub mod Fields
+pub mod Passed
+pub mod Accepted
+pub mod InForce
+pub mod Kept
+pub mod Examples
+pub mod Sentences

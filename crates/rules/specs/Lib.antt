@@ -1,0 +1,16 @@
+pub mod Lists
+pub mod Sums
+pub mod Calendar
+pub mod Field
+pub mod File
+pub mod Litres
+pub mod Charges
+pub mod Settlement
+pub mod Refusal
+pub mod Text
+pub mod Report
+pub mod Services
+pub mod Promises
+pub mod Good
+pub mod Fits
+pub mod Examples
