@@ -82,13 +82,24 @@ unfolding
     calendar.aprilFirst calendar.daysInYear
     field.field
     file.records file.after file.pointAt file.decode
-    litres.dialValues litres.litresPerCount litres.advance litres.carriedBefore litres.betweenReads litres.fromReads litres.meterLitres litres.dayLitres
-    charges.chargedFrom charges.chargedCount charges.overCharged charges.noCondition charges.conditionOn charges.afterDiscounts charges.noBand charges.firstBand charges.bandFor charges.overMeterDays charges.volumeOn charges.volume charges.allowance charges.threshold charges.costOf charges.yearCost charges.meterCharge charges.volumetricCharge charges.drainageCharge charges.charges
-    settlement.suppliedOn settlement.disconnectedOn settlement.pointCharge settlement.statement settlement.providerOn settlement.overProviders settlement.providerCharge settlement.providerAt settlement.insertDays settlement.providersAnd settlement.providersOf settlement.added settlement.plus settlement.clearRow settlement.rowAnd settlement.rows
-    refusal.headerRule refusal.bandRule refusal.pointRule refusal.transferRule refusal.conditionRule refusal.meterRule refusal.readRule refusal.bandNumbers refusal.transferNumbers refusal.conditionNumbers refusal.readNumbers refusal.meterNumbers refusal.pointNumbers refusal.fileNumbers refusal.paddingNumber refusal.firstOr refusal.fileRefusal refusal.refusal
+    litres.dialValues litres.litresPerCount litres.advance litres.carriedBefore litres.betweenReads litres.fromReads litres.meterLitres
+    litres.dayLitres
+    charges.chargedFrom charges.chargedCount charges.overCharged charges.noCondition charges.conditionOn charges.afterDiscounts
+    charges.noBand charges.firstBand charges.bandFor charges.overMeterDays charges.volumeOn charges.volume charges.proportion
+    charges.allowance charges.threshold charges.costOf charges.yearCost charges.meterCharge charges.volumetricCharge
+    charges.drainageCharge charges.charges
+    settlement.suppliedOn settlement.disconnectedOn settlement.pointCharge settlement.statement settlement.providerOn
+    settlement.overProviders settlement.providerCharge settlement.providerAt settlement.insertDays settlement.providersAnd
+    settlement.providersOf settlement.added settlement.plus settlement.clearRow settlement.rowAnd settlement.rows
+    refusal.headerRule refusal.bandRule refusal.pointRule refusal.transferRule refusal.conditionRule refusal.meterRule refusal.readRule
+    refusal.bandNumbers refusal.transferNumbers refusal.conditionNumbers refusal.readNumbers refusal.meterNumbers refusal.pointNumbers
+    refusal.fileNumbers refusal.paddingNumber refusal.firstOr refusal.fileRefusal refusal.refusal
     text.text text.digits text.decimal
-    report.field report.serviceName report.heading report.opening report.line report.volumeLine report.lines report.closing report.totalCharge report.block report.blocks report.refused report.reportOf report.report
-    services.written services.roomNumber services.lengthOr services.spaceAfter services.rowsNumber services.rowsAnswer services.rowsAfter services.zeroStatement services.statementAt services.statementAnswer services.reportNumber services.reportAnswer services.reportAfter
+    report.field report.serviceName report.heading report.opening report.line report.volumeLine report.lines report.closing
+    report.totalCharge report.block report.blocks report.refused report.reportOf report.report
+    services.written services.roomNumber services.lengthOr services.spaceAfter services.rowsNumber services.rowsAnswer services.rowsAfter
+    services.zeroStatement services.statementAt services.statementAnswer services.reportNumber services.reportAnswer
+    services.reportAfter
 marked =
     (1, aprilFirst 2021 ∷ [], 7761 ∷ [])
     ∷ (2, aprilFirst 2024 ∷ daysInYear 2023 ∷ [], 8857 ∷ 366 ∷ [])
