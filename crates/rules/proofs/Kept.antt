@@ -14,11 +14,11 @@ use Rattle.rules.specs.Lists.{All}
 use Rattle.rules.specs.Calendar.{aprilFirst, daysInYear}
 use Rattle.rules.specs.File.{Tariff, Supply, Point, File, decode}
 use Rattle.rules.specs.Refusal.{fileRefusal, firstOr, refusal}
-use Rattle.rules.specs.Good.{GoodPoints, Good}
+use Rattle.rules.specs.Good.{Good}
 use Rattle.rules.specs.Charges.{chargedFrom, chargedCount, overCharged, Charge, meterCharge, volumetricCharge, drainageCharge, charges}
 use Rattle.rules.specs.Settlement.{amount, centipence, suppliedOn, statement, pointCharge, providerOn, overProviders, providerCharge, providerAt, providersOf, plus, clearRow, rowAnd, rows}
 use Rattle.rules.specs.Services.{written, rowsNumber, rowsAnswer, rowsAfter, zeroStatement, statementAt, statementAnswer}
-use Rattle.rules.specs.Promises.{Accepted, DaysOwned, providersAt, Conserved, ChargeNear, AllNear, Summed, RowsAreSums, untraded, SameStatements, Served, Demand3}
+use Rattle.rules.specs.Promises.{Accepted, providersAt, Conserved, ChargeNear, AllNear, Summed, RowsAreSums, untraded, SameStatements, Served, Demand3}
 use Rattle.rules.proofs.Lists.{all, all-all, all-map}
 use Rattle.rules.proofs.Shares.{Covers, over-none, days-count, floors-add-up, owns-add-up, floor-near}
 use Rattle.rules.proofs.Rows.{added-at}
@@ -178,11 +178,7 @@ served bytes h =
       statements = λ place k. answered bytes h place ∙ at-place (decode bytes .tariff) (decode bytes .points) place k;
     }
 
--- THE PROVIDER OF A DAY
-all-owned : (tariff : Tariff) (service least : ℕ) (points : List Point) → GoodPoints service least points → All (DaysOwned tariff) points
-all-owned tariff service least [] g = tt
-all-owned tariff service least (point ∷ points) g = (owned tariff point service least (g .0), all-owned tariff service (point .number + 1) points (g .1))
-
+-- ACCEPTED FILES
 -- where there is no number, there was none before
 first-none : (n : ℕ) (last : ℕ) → firstOr (n ∷ []) last ≡ 0 → n ≡ 0
 unfolding firstOr
@@ -201,7 +197,7 @@ demand-3 =
           let g = accepted-good bytes h in
           let year : 2000 ≤ file .tariff .year = omega (arith, g .header .yearFrom) in
           record {
-            owned = all-owned (file .tariff) (file .tariff .service) 0 (file .points) (g .points);
+            owned = all-all (owned (file .tariff) (file .tariff .service)) (file .points) (g .points);
             conserved = all (Conserved (file .tariff)) (conserved (file .tariff)) (file .points);
             near = all (AllNear (file .tariff)) (λ point. all-near (file .tariff) point year) (file .points);
             rows = rows-are-sums file;
