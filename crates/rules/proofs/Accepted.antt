@@ -20,7 +20,7 @@ use Rattle.rules.specs.Calendar.{noDay}
 use Rattle.rules.specs.File.{Meter, Point, File, meterHead, pointHead, fileHeader, bandsAt, afterBand, afterBands, transfersFrom, afterTransfer, afterTransfers, afterCondition, afterConditions, readsFrom, afterRead, afterReads, afterMeter, afterMeters, afterPoint, afterPoints, after, decode}
 use Rattle.rules.specs.Litres.{dialValues}
 use Rattle.rules.specs.Refusal.{when, headerRule, bandRule, pointRule, transferRule, conditionRule, meterRule, readRule, bandNumbers, transferNumbers, conditionNumbers, readNumbers, meterNumbers, pointNumbers, fileNumbers, firstOr, fileRefusal}
-use Rattle.rules.specs.Good.{GoodBand, GoodTransfer, FirstBy, GoodCondition, GoodRead, GoodAdvances, GoodMeter, GoodPoint, Good}
+use Rattle.rules.specs.Good.{GoodBand, GoodTransfer, FirstBy, GoodCondition, Undrained, GoodRead, GoodAdvances, GoodMeter, GoodPoint, Good}
 use Rattle.rules.proofs.Passed.{passed, good-header, good-band, good-point, good-transfer, good-condition, good-meter, good-read}
 
 -- none of these numbers is a breach
@@ -70,13 +70,19 @@ first-by end at least latest [] z some = omega arith
 first-by end at least latest (t ∷ ts) z some = good-transfer end (afterTransfer at) least latest t (z .0) .3
 
 good-conditions : (end service at least : ℕ) (cs : List Condition) → Zeros (conditionNumbers end service at least cs) → at ≤ end →
-    Through (GoodCondition service) (λ c. c .day) least cs (afterConditions at cs) end
+    Through GoodCondition (λ c. c .day) least cs (afterConditions at cs) end
 unfolding conditionNumbers after
 good-conditions end service at least [] z w = record { each = tt; ascend = tt; within = w }
 good-conditions end service at least (c ∷ cs) z w =
     let g = good-condition end (afterCondition at) service least c (z .0) in
     let q = good-conditions end service (afterCondition at) (c .day + 1) cs (z .1) (g .0) in
     record { each = (g .1, q .each); ascend = ascends (λ c. c .day) least c cs (g .2) (q .ascend); within = q .within }
+
+undrained : (end service at least : ℕ) (cs : List Condition) → Zeros (conditionNumbers end service at least cs) → service ≡ 0 → All Undrained cs
+unfolding conditionNumbers
+undrained end service at least [] z e = tt
+undrained end service at least (c ∷ cs) z e =
+    (good-condition end (afterCondition at) service least c (z .0) .3 e, undrained end service (afterCondition at) (c .day + 1) cs (z .1) e)
 
 good-reads : (end : ℕ) (m : MeterHead) (at least latest before : ℕ) (rs : List Read) → Zeros (readNumbers end m at least latest before rs) → at ≤ end →
     Through (GoodRead m) (λ r. r .day) least rs (afterReads at rs) end
@@ -107,9 +113,10 @@ good-advances end m at least latest before (a ∷ b ∷ rs) z =
       good-advances end m (afterRead at) (a .day + 1) (a .day + 3660) (a .value) (b ∷ rs) (z .1),
     )
 
-good-meters : (end service at : ℕ) (ms : List Meter) → Zeros (meterNumbers end service at ms) → at ≤ end → All (GoodMeter service) ms × (afterMeters at ms ≤ end)
+good-meters : (end service at : ℕ) (ms : List Meter) → Zeros (meterNumbers end service at ms) → at ≤ end →
+    All GoodMeter ms × (afterMeters at ms ≤ end) × (service ≡ 0 → All (λ m. m .returned ≡ 100) ms)
 unfolding meterNumbers after
-good-meters end service at [] z w = (tt, w)
+good-meters end service at [] z w = (tt, w, λ e. tt)
 good-meters end service at (m ∷ ms) z w =
     let head = meterHead m in
     let g = good-meter end (readsFrom at) service head (z .0) in
@@ -117,7 +124,7 @@ good-meters end service at (m ∷ ms) z w =
     let r = good-reads end head (readsFrom at) 0 noDay 0 (m .reads) (s .0) (g .0) in
     let v = good-advances end head (readsFrom at) 0 noDay 0 (m .reads) (s .0) in
     let q = good-meters end service (afterMeter at m) ms (s .1) (r .within) in
-    ((record { head = g .1; reads = r .each; days = r .ascend; advances = v }, q .0), q .1)
+    ((record { head = g .1; reads = r .each; days = r .ascend; advances = v }, q .0), q .1, λ e. (g .2 e, q .2 e))
 
 good-points : (end service at least : ℕ) (ps : List Point) → Zeros (pointNumbers end service at least ps) → at ≤ end →
     Through (GoodPoint service) (λ p. p .number) least ps (afterPoints at ps) end
@@ -147,6 +154,8 @@ good-points end service at least (p ∷ ps) z w =
       conditions = c .each;
       conditionDays = c .ascend;
       meters = m .0;
+      undrained = undrained end service conditionsFrom 0 (p .supply .conditions) (v .1);
+      unreturned = m .2;
     } in
     record { each = (good, q .each); ascend = ascends (λ p. p .number) least p ps (g .2) (q .ascend); within = q .within }
 

@@ -50,11 +50,14 @@ abbrev pub FirstBy : ℕ → List Transfer → Type 0
 FirstBy day [] = ⊥
 FirstBy day (t ∷ ts) = t .day ≤ day
 
-pub record GoodCondition (service : ℕ) (c : Condition) : Type 0 where
+pub record GoodCondition (c : Condition) : Type 0 where
   pub day : c .day < noDay
-  pub water : service ≡ 0 → (c .property ≡ 0) × (c .roads ≡ 0)
   pub discounts : c .schedule3 + c .section29e ≤ 10000
   pub rateable : c .rateable ≤ 10000000
+
+-- no drainage, as in a water file
+abbrev pub Undrained : Condition → Type 0
+Undrained c = (c .property ≡ 0) × (c .roads ≡ 0)
 
 -- a read within its meter's period, and below the dial's values
 pub record GoodRead (m : MeterHead) (r : Read) : Type 0 where
@@ -76,18 +79,17 @@ GoodAdvances m [] = Unit {0}
 GoodAdvances m (a ∷ []) = Unit {0}
 GoodAdvances m (a ∷ b ∷ rs) = GoodAdvance m a b × GoodAdvances m (b ∷ rs)
 
-pub record GoodMeterHead (service : ℕ) (m : MeterHead) : Type 0 where
+pub record GoodMeterHead (m : MeterHead) : Type 0 where
   pub share : m .share ≤ 100
   pub returned : m .returned ≤ 100
-  pub water : service ≡ 0 → m .returned ≡ 100
   pub digitsFrom : 4 ≤ m .digits
   pub digitsTo : m .digits ≤ 8
   pub installed : m .installed < noDay
   pub removed : m .installed ≤ m .removed
   pub fewReads : m .reads ≤ 40
 
-pub record GoodMeter (service : ℕ) (m : Meter) : Type 0 where
-  pub head : GoodMeterHead service (meterHead m)
+pub record GoodMeter (m : Meter) : Type 0 where
+  pub head : GoodMeterHead (meterHead m)
   pub reads : All (GoodRead (meterHead m)) (m .reads)
   pub days : Ascending 0 (map (λ r. r .day) (m .reads))
   pub advances : GoodAdvances (meterHead m) (m .reads)
@@ -105,9 +107,11 @@ pub record GoodPoint (service : ℕ) (p : Point) : Type 0 where
   pub transfers : All GoodTransfer (p .transfers)
   pub transferDays : Ascending 0 (map (λ t. t .day) (p .transfers))
   pub firstTransfer : FirstBy (p .supply .connected) (p .transfers)
-  pub conditions : All (GoodCondition service) (p .supply .conditions)
+  pub conditions : All GoodCondition (p .supply .conditions)
   pub conditionDays : Ascending 0 (map (λ c. c .day) (p .supply .conditions))
-  pub meters : All (GoodMeter service) (p .supply .meters)
+  pub meters : All GoodMeter (p .supply .meters)
+  pub undrained : service ≡ 0 → All Undrained (p .supply .conditions)
+  pub unreturned : service ≡ 0 → All (λ m. m .returned ≡ 100) (p .supply .meters)
 
 -- `fits` says that the records end within the file: a cursor that goes from one to the next stays there
 pub record Good (b : List ℕ) : Type 0 where
