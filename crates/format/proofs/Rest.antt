@@ -18,6 +18,7 @@ use Rattle.rules.specs.declared.MeterHead.{MeterHead}
 use Rattle.rules.specs.declared.Read.{Read}
 use Rattle.rules.specs.Calendar.{noDay}
 use Rattle.rules.specs.File.{records, after, headerAt, bandAt, pointHeadAt, transferAt, conditionAt, meterHeadAt, readAt, meterAt, pointAt, decode, bandsAt, afterBand, transfersFrom, afterTransfer, afterCondition, readsFrom, afterRead, afterMeter, afterPoint}
+use Rattle.records.proofs.Positions.{length-records}
 use Rattle.rules.specs.Refusal.{headerRule, bandRule, pointRule, transferRule, conditionRule, meterRule, readRule, bandNumbers, transferNumbers, conditionNumbers, readNumbers, meterNumbers, pointNumbers, fileNumbers, paddingNumber, firstOr, fileRefusal}
 
 -- the end of a file, in bits
@@ -131,12 +132,6 @@ unfolding firstOr
 first-append [] ys last = refl
 first-append (zero ∷ xs) ys last = first-append xs ys last
 first-append (suc x ∷ xs) ys last = refl
-
--- as many records as the count says
-length-records : {A : Type 0} (here : ℕ → A) (next : ℕ → A → ℕ) (k at : ℕ) → length (records here next k at) ≡ k
-unfolding records
-length-records here next zero at = refl
-length-records here next (suc k) at = ap suc (length-records here next k _)
 
 -- ---- the turns of a loop
 
