@@ -1,4 +1,4 @@
-// A settlement file: its records, and the check of breaches 1 to 12.
+// The check of a settlement file: breaches 1 to 12.
 ghost use mathlib.Core.Path.{_≡_};
 ghost use Prim.Native.Nat.{_*_, _≤_};
 ghost use lib.ListN.{length};
@@ -29,7 +29,8 @@ fn padding_number(file: &[u8], c: Cursor) -> u64
 }
 
 // The number of a file's first breach in file order, and 0 for an accepted file. `least` and `lowest` are the least size and number allowed
-// next, `from` and `until` the days that the next record of a list may have, and `before` is the value of the read before.
+// next, `from` and `until` the days that the next record of a list may have, and `before` is the value of the read before. The outer loop turns
+// once: it is there to be left by its label.
 pub fn check(file: &[u8]) -> u64
     ensures { λ r. ⌜ r ≡ fileRefusal (now (file .entry)) ⌝ }
 {

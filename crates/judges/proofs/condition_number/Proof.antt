@@ -4,7 +4,7 @@ use borrow.Author.Tests.{lt-ltb, le-ltb}
 use mathlib.Core.Path.{sym, _∙_}
 use Rattle.rules.specs.Refusal.{conditionRule}
 use native.Mathlib.Omega.{arith}
-use Rattle.judges.proofs.Rules.{discounts-fit}
+use Rattle.judges.proofs.Discounts.{discounts-fit}
 use Rattle.judges.proofs.condition_number.Statement.{statement}
 use Rattle.judges.proofs.condition_number.Tie as tie
 
