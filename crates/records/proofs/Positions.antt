@@ -1,6 +1,6 @@
 -- Of records one after the other: there are as many as the count says, and no list ends before it begins. So where the last record of a file
 -- ends within it, every record does. Assumes nothing.
-use Prim.Native.Nat.{ℕ, zero, suc, _+_, _≤_}
+use Prim.Native.Nat.{ℕ, zero, suc, _≤_}
 use mathlib.Core.Path.{_≡_, refl, ap}
 use mathlib.Core.List.{List, [], _∷_}
 use native.Mathlib.Omega.{arith}
