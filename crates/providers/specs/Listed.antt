@@ -1,0 +1,38 @@
+-- A list of providers in an array of 64, and what it stands for.
+use Prim.Native.Nat.{ℕ, _+_, _≤_, _<_}
+use mathlib.Core.Bool.{Bool, true, false}
+use mathlib.Core.Path.{_≡_}
+use mathlib.Core.List.{List}
+use lib.ListN.{length, getD, take}
+use Rattle.rules.specs.Lists.{insert}
+use Rattle.providers.specs.declared.Listed.{Listed}
+
+-- a list in an array of 64
+pub record InArray (l : Listed) : Type 0 where
+  pub few : l .count ≤ 64
+  pub long : length (l .list) ≡ 64
+
+-- the array's first numbers are the list where that has at most 64; where it has more, only that is known
+abbrev pub StandsWhere : Bool → Listed → List ℕ → Type 0
+StandsWhere false l ps = take (l .count) (l .list) ≡ ps
+StandsWhere true l ps = 64 < length ps
+
+abbrev pub Stands : Listed → List ℕ → Type 0
+Stands l ps = StandsWhere (l .over) l ps
+
+-- with one number more
+pub record With (p : ℕ) (before after : Listed) : Type 0 where
+  pub array : InArray after
+  pub stands : (ps : List ℕ) → Stands before ps → Stands after (insert p ps)
+
+-- the first place of the `count` first whose number is not below p
+pub record Placed (list : List ℕ) (count p at : ℕ) : Type 0 where
+  pub within : at ≤ count
+  pub below : (k : ℕ) → k < at → getD list k 0 < p
+  pub here : at < count → p ≤ getD list at 0
+
+-- the numbers from a place on, before the count, are one place up
+pub record MovedUp (list out : List ℕ) (at count : ℕ) : Type 0 where
+  pub long : length out ≡ length list
+  pub low : (k : ℕ) → k < at → getD out k 0 ≡ getD list k 0
+  pub high : (k : ℕ) → at ≤ k → k < count → getD out (k + 1) 0 ≡ getD list k 0
