@@ -1,2 +1,3 @@
 pub mod Shift
 pub mod Insert
+pub mod Days

@@ -1,5 +1,5 @@
 -- A list of providers in an array of 64, and what it stands for.
-use Prim.Native.Nat.{ℕ, _+_, _≤_, _<_}
+use Prim.Native.Nat.{ℕ, zero, suc, _+_, _≤_, _<_}
 use mathlib.Core.Bool.{Bool, true, false}
 use mathlib.Core.Path.{_≡_}
 use mathlib.Core.List.{List}
@@ -36,3 +36,12 @@ pub record MovedUp (list out : List ℕ) (at count : ℕ) : Type 0 where
   pub long : length out ≡ length list
   pub low : (k : ℕ) → k < at → getD out k 0 ≡ getD list k 0
   pub high : (k : ℕ) → at ≤ k → k < count → getD out (k + 1) 0 ≡ getD list k 0
+
+-- the providers of the n first days of a sheet, put in one after the other
+unfoldable pub insertSheet : List ℕ → ℕ → List ℕ → List ℕ
+insertSheet sheet zero ps = ps
+insertSheet sheet (suc n) ps = insert (getD sheet n 0) (insertSheet sheet n ps)
+
+pub record WithSheet (sheet : List ℕ) (n : ℕ) (before after : Listed) : Type 0 where
+  pub array : InArray after
+  pub stands : (ps : List ℕ) → Stands before ps → Stands after (insertSheet sheet n ps)
