@@ -1,3 +1,4 @@
+-- `providers::place` meets its contract: the places passed hold numbers below p. Assumes nothing.
 use Prim.Native.Nat.{ℕ, _-_, _≤_, _<_}
 use borrow.Author.Needs.{needs}
 use borrow.Author.Count.{below-more}
@@ -5,8 +6,6 @@ use native.Mathlib.Omega.{arith}
 use lib.ListN.{getD}
 use Rattle.providers.proofs.place.Statement.{statement}
 use Rattle.providers.proofs.place.Tie as tie
-use Rattle.providers.proofs.place.Reads as reads
-use Rattle.providers.proofs.place.Lts as lts
 
 abbrev Inv-loop : tie.InvT-loop
 Inv-loop count p list i₀ i = (i ≤ count) × ((k : ℕ) → k < i → getD list k 0 < p)
@@ -14,35 +13,27 @@ Inv-loop count p list i₀ i = (i ≤ count) × ((k : ℕ) → k < i → getD li
 abbrev μ-loop : tie.MeasureT-loop
 μ-loop count p list i₀ i = count - i
 
--- src/lib.rt:34:5
 loop-holds : tie.Need-loop-holds Inv-loop μ-loop
 loop-holds c = search needs
 
--- src/lib.rt:35:17
 mul-if1 : tie.Need-mul-if1 Inv-loop μ-loop
 mul-if1 c = search needs
 
--- src/lib.rt:35:17
 array-read-if1 : tie.Need-array-read-if1 Inv-loop μ-loop
 array-read-if1 c = search needs
 
--- src/lib.rt:36:13
 returns : tie.Need-returns Inv-loop μ-loop
 returns c = record { within = search needs; below = c .before .before .loop .inv .1; here = λ h. search needs }
 
--- src/lib.rt:38:9
 add-i : tie.Need-add-i Inv-loop μ-loop
 add-i c = search needs
 
--- src/lib.rt:34:5
 loop-less : tie.Need-loop-less Inv-loop μ-loop
 loop-less c = search needs
 
--- src/lib.rt:34:5
 loop-again : tie.Need-loop-again Inv-loop μ-loop
 loop-again c = (search needs, below-more _ _ (c .before .before .loop .inv .1) (omega (arith, c .if1 .left)))
 
--- src/lib.rt:27:1
 returns-2 : tie.Need-returns-2 Inv-loop μ-loop
 returns-2 c = record { within = search needs; below = c .before .loop .inv .1; here = λ h. absurd (omega arith) }
 

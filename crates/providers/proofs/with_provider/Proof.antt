@@ -1,59 +1,45 @@
+-- `providers::with_provider` meets its contract: the number is there, or there is no room, or it is put in its place. Assumes nothing.
 use Rattle.providers.proofs.Insert.{over-kept, there-kept, over-now, one-more}
 use mathlib.Core.Logic.{⊎-elim}
 use native.Mathlib.Omega.{arith}
 use borrow.Author.Needs.{needs}
 use Rattle.providers.proofs.with_provider.Statement.{statement}
 use Rattle.providers.proofs.with_provider.Tie as tie
-use Rattle.providers.proofs.with_provider.Reads as reads
-use Rattle.providers.proofs.with_provider.Lts as lts
-use Rattle.providers.proofs.place.Reads as place-reads
-use Rattle.providers.proofs.shifted.Reads as shifted-reads
 
--- src/lib.rt:62:9
 returns : tie.Need-returns
 returns c = over-kept (c .before .args .l) (c .before .args .p) (c .before .pre) (c .if1 .taken)
 
--- src/lib.rt:66:9
 place-requires : tie.Need-place-requires
 place-requires c κs = search needs
 
--- src/lib.rt:68:12
 mul-if3 : tie.Need-mul-if3
 mul-if3 c = search needs
 
--- src/lib.rt:68:12
 array-read-if3 : tie.Need-array-read-if3
 array-read-if3 c = search needs
 
--- src/lib.rt:69:13
 returns-2 : tie.Need-returns-2
 returns-2 c =
     let s = c .before .before .before .before .before in
     there-kept (s .args .l) (s .args .p) (s .pre) (c .before .before .before .before .if1 .left) (c .before .before .place .ensures) (c .before .if2 .taken) (c .if3 .taken)
 
--- src/lib.rt:73:9
 returns-3 : tie.Need-returns-3
 returns-3 c =
     let s = c .before .before .before .before .before in
     over-now (s .args .l) (s .args .p) (s .pre) (c .before .before .before .before .if1 .left) (c .before .before .place .ensures) (λ h e. ⊎-elim (λ w. w .1 .left e) (λ w. omega arith) (c .before .if2 .came)) (c .if4 .taken)
 
--- src/lib.rt:79:20
 shifted-requires : tie.Need-shifted-requires
 shifted-requires c κs = search needs
 
--- src/lib.rt:80:5
 mul-more : tie.Need-mul-more
 mul-more c = search needs
 
--- src/lib.rt:80:5
 array-write-more : tie.Need-array-write-more
 array-write-more c = search needs
 
--- src/lib.rt:83:16
 add-t16 : tie.Need-add-t16
 add-t16 c = search needs
 
--- src/lib.rt:57:1
 returns-4 : tie.Need-returns-4
 returns-4 c =
     let s = c .before .before .before .before .before .before in
