@@ -5,6 +5,9 @@ use mathlib.Core.Path.{_≡_}
 use mathlib.Core.List.{List}
 use lib.ListN.{length, getD, take}
 use Rattle.rules.specs.Lists.{insert}
+use Rattle.rules.specs.File.{Tariff, Point, pointAt, afterPoint}
+use Rattle.rules.specs.Charges.{chargedFrom, chargedCount}
+use Rattle.rules.specs.Settlement.{insertDays}
 use Rattle.providers.specs.declared.Listed.{Listed}
 
 -- a list in an array of 64
@@ -45,3 +48,13 @@ insertSheet sheet (suc n) ps = insert (getD sheet n 0) (insertSheet sheet n ps)
 pub record WithSheet (sheet : List ℕ) (n : ℕ) (before after : Listed) : Type 0 where
   pub array : InArray after
   pub stands : (ps : List ℕ) → Stands before ps → Stands after (insertSheet sheet n ps)
+
+-- the list with the providers of a point's charged days
+abbrev pub pointProviders : Tariff → Point → List ℕ → List ℕ
+pointProviders tariff point ps = insertDays point (chargedFrom tariff (point .supply)) (chargedCount tariff (point .supply)) ps
+
+-- with the providers of the point at a position, and the position after the point
+pub record WithPoint (file : List ℕ) (at year : ℕ) (before after : Listed) (next : ℕ) : Type 0 where
+  pub array : InArray after
+  pub stands : (tariff : Tariff) → tariff .year ≡ year → (ps : List ℕ) → Stands before ps → Stands after (pointProviders tariff (pointAt file at) ps)
+  pub ends : next ≡ afterPoint at (pointAt file at)

@@ -63,3 +63,10 @@ module _ (b : List ℕ) where
 
     pub point-small : afterPoint at (pointAt b at) < 2 ^ 32 → next + head .transfers * 32 < 2 ^ 32
     point-small small = omega (arith, point-past, lists-small (next + head .transfers * 32) head (omega (arith, point-past)))
+
+    -- where the transfers end, the conditions begin
+    pub point-lists : afterLists b (afterTransfers next (transfers b (head .transfers) next)) head ≡ afterPoint at (pointAt b at)
+    point-lists = ap (λ from. afterLists b from head) (records-wide 32 (transferAt b) (head .transfers) next) ∙ point-past
+
+    pub transfers-small : afterPoint at (pointAt b at) < 2 ^ 32 → afterTransfers next (transfers b (head .transfers) next) < 2 ^ 32
+    transfers-small small = omega (arith, point-small small, records-wide 32 (transferAt b) (head .transfers) next)
