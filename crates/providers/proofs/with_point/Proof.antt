@@ -10,39 +10,25 @@ use Rattle.providers.proofs.Points.{point-listed}
 use borrow.Author.Needs.{needs}
 use Rattle.providers.proofs.with_point.Statement.{statement}
 use Rattle.providers.proofs.with_point.Tie as tie
-use Rattle.providers.proofs.with_point.Reads as reads
-use Rattle.providers.proofs.with_point.Lts as lts
-use Rattle.charged.proofs.charged_days.Reads as charged-days-reads
-use Rattle.providers.proofs.with_days.Reads as with-days-reads
-use Rattle.records.proofs.after_lists.Reads as after-lists-reads
-use Rattle.records.proofs.point.Reads as point-reads
-use Rattle.sheet.proofs.fill_providers.Reads as fill-providers-reads
 
--- src/lib.rt:133:9
 point-requires : tie.Need-point-requires
 point-requires c κs = omega (arith, c .before .pre .2, point-forward (c .before .args .c .at) (pointAt (now (c .before .args .file)) (c .before .args .c .at)))
 
--- src/lib.rt:135:9
 charged-days-requires : tie.Need-charged-days-requires
 charged-days-requires c κs = search needs
 
--- src/lib.rt:139:67
 slice-aggregate-fill-providers : tie.Need-slice-aggregate-fill-providers
 slice-aggregate-fill-providers c = search needs
 
--- src/lib.rt:139:9
 fill-providers-requires : tie.Need-fill-providers-requires
 fill-providers-requires c κs = transfers-small (now (c .before .before .before .before .before .before .before .args .file)) (c .before .before .before .before .before .before .before .args .c .at) (c .before .before .before .before .before .point .ensures) (c .before .before .before .before .before .before .before .pre .2)
 
--- src/lib.rt:140:31
 slice-aggregate-with-days : tie.Need-slice-aggregate-with-days
 slice-aggregate-with-days c = search needs
 
--- src/lib.rt:140:9
 with-days-requires : tie.Need-with-days-requires
 with-days-requires c κs = search needs
 
--- src/lib.rt:141:9
 -- the lists after the transfers end where the point does
 lists-end : (c : tie.After-with-days) → let s = c .before .before .before .before .before .before .before .before .before .before .before in
     afterLists (now (s .args .file)) (c .before .before .before .fill-providers .result .at) (c .before .before .before .before .before .before .before .before .before .point .result .value) ≡ afterPoint (s .args .c .at) (pointAt (now (s .args .file)) (s .args .c .at))
@@ -54,7 +40,6 @@ lists-end c =
 after-lists-requires : tie.Need-after-lists-requires
 after-lists-requires c κs = omega (arith, c .before .before .before .before .before .before .before .before .before .before .before .pre .2, lists-end c)
 
--- src/lib.rt:129:1
 returns : tie.Need-returns
 returns c =
     let s = c .before .before .before .before .before .before .before .before .before .before .before .before in
