@@ -1,6 +1,6 @@
 // Arithmetic on whole numbers that is exact beyond 64 bits.
 ghost use mathlib.Core.Path.{_≡_};
-ghost use Prim.Native.Nat.{ℕ, _+_, _-_, _*_, _/_, _^_, _<_, _≤_, min, max};
+ghost use Prim.Native.Nat.{_+_, _-_, _*_, _/_, _^_, _<_, min, max};
 ghost use Rattle.exact.specs.Parts.{value, Of};
 
 // The greatest number of 64 bits.

@@ -1,14 +1,12 @@
 -- Laws of sheets that are added to. Assumes nothing.
-use Prim.Native.Nat.{ℕ, zero, suc, _+_, _-_, _*_, _/_, _≤_, _<_, _^_, min}
-use mathlib.Core.Path.{_≡_, refl, sym, ap, _∙_, subst}
-use mathlib.Core.Bool.{Bool, true, false, _&&_}
-use mathlib.Core.List.{List, [], _∷_}
+use Prim.Native.Nat.{ℕ, _+_, _-_, _*_, _/_, _≤_, _<_, _^_, min}
+use mathlib.Core.Path.{_≡_, refl, ap, _∙_, subst}
+use mathlib.Core.List.{List}
 use native.Mathlib.Nat.{le-refl, mul-le-mul, mul-le-mul-left, div-le-of-le-mul, mul-comm}
 use native.Mathlib.Decide.{decLt}
 use native.Mathlib.Omega.{arith}
 use borrow.Author.Tests.{le-leb, lt-leb, lt-ltb, le-ltb}
 use lib.ListN.{length, getD, set}
-use lib.Dec.{leb, ltb}
 use Rattle.rules.specs.Sums.{only}
 use Rattle.rules.specs.Litres.{carriedBefore}
 use Rattle.sheet.specs.Sheets.{Grown, Room}

@@ -1,27 +1,25 @@
 -- The four sheets of meters, one meter at a time. Assumes nothing.
 use Prim.Native.Nat.{ℕ, _+_, _-_, _*_, _^_, _≤_, _<_, zero-le}
-use mathlib.Core.Path.{_≡_, refl, sym, ap, _∙_, subst}
+use mathlib.Core.Path.{_≡_, refl, sym, _∙_, subst}
 use mathlib.Core.Bool.{Bool, true, false, cond}
 use mathlib.Core.List.{List, [], _∷_}
 use native.Mathlib.Nat.{mul-le-mul}
 use native.Mathlib.Omega.{arith}
-use lib.ListN.{length, getD}
+use lib.ListN.{length}
 use lib.Dec.{eqb}
 use Rattle.rules.specs.declared.Read.{Read}
 use Rattle.rules.specs.declared.Band.{Band}
 use Rattle.rules.specs.declared.MeterHead.{MeterHead}
 use Rattle.rules.specs.Sums.{over}
 use Rattle.rules.specs.Lists.{All}
-use Rattle.rules.specs.File.{Meter, meterHead, meterHeadAt, reads, readsFrom, afterReads, bands, meterAt, meters, afterMeter, afterMeters}
+use Rattle.rules.specs.File.{Meter, meterHead, meterHeadAt, reads, readsFrom, afterReads, meterAt, afterMeter}
 use Rattle.rules.specs.Litres.{advance, litresPerCount, fromReads, meterLitres}
 use Rattle.rules.specs.Charges.{noBand, firstBand, bandFor}
 use Rattle.rules.specs.Good.{GoodBand, GoodRead, GoodAdvance, GoodAdvances, GoodMeter}
-use Rattle.records.proofs.Positions.{length-records}
-use Rattle.sheet.specs.Sheets.{Filled, Overwritten, Grown, Room}
-use Rattle.sheet.specs.Meters.{during, spread, Spreadable, meterOf, weighed, MeterSheet, litresSheet, annualSheet, allowanceSheet, thresholdSheet, meterFigure, four, MeterRoom, MeterAdded, MetersFilled, GoodMeters}
+use Rattle.sheet.specs.Sheets.{Overwritten, Grown, Room}
+use Rattle.sheet.specs.Meters.{during, Spreadable, meterOf, weighed, MeterSheet, litresSheet, annualSheet, allowanceSheet, thresholdSheet, meterFigure, four, MeterRoom, MeterAdded, MetersFilled}
 use Rattle.sheet.proofs.Laws.{all-days, latest-all}
 use Rattle.sheet.proofs.Growth.{during-most, grown-as, room-as, Rest, rest-all, rest-room, rest-more, rest-none, spread-most, amount-fits}
-use Rattle.sheet.proofs.Records.{Ahead}
 use Rattle.sheet.proofs.Readings.{advance-fits, spreadable, between-is}
 
 -- a figure of a band: 0 where there is none, and at most 10 ^ 9

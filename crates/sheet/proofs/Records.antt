@@ -1,9 +1,8 @@
 -- The fillers' loops over the records of a file, one record at a time. Assumes nothing.
-use Prim.Native.Nat.{ℕ, zero, suc, _+_, _-_, _*_, _≤_, _<_, zero-le}
-use mathlib.Core.Path.{_≡_, refl, sym, ap, _∙_, subst}
+use Prim.Native.Nat.{ℕ, zero, suc, _-_, _*_, _≤_, _<_, zero-le}
+use mathlib.Core.Path.{_≡_, sym, ap, _∙_, subst}
 use mathlib.Core.List.{List, [], _∷_}
 use native.Mathlib.Omega.{arith}
-use lib.ListN.{length}
 use lib.Dec.{eqb, lit<}
 use Rattle.rules.specs.declared.Transfer.{Transfer}
 use Rattle.rules.specs.declared.Condition.{Condition}
@@ -13,8 +12,8 @@ use Rattle.rules.specs.File.{records, after}
 use Rattle.rules.specs.Charges.{noCondition, afterDiscounts}
 use Rattle.rules.specs.Good.{GoodCondition}
 use Rattle.records.proofs.Positions.{forward}
-use Rattle.sheet.specs.Sheets.{Filled, Overwritten}
-use Rattle.sheet.specs.Conditions.{drained, ProvidersFilled, ConditionSheet, vacantSheet, disconnectedSheet, discountedSheet, propertySheet, roadsSheet, conditionFigure, five, ConditionSet, ConditionsFilled}
+use Rattle.sheet.specs.Sheets.{Overwritten}
+use Rattle.sheet.specs.Conditions.{drained, ConditionSheet, vacantSheet, disconnectedSheet, discountedSheet, propertySheet, roadsSheet, conditionFigure, five, ConditionSet, ConditionsFilled}
 use Rattle.sheet.proofs.Laws.{Latest, latest-begin, latest-turn, latest-end, latest-of}
 
 -- ANY LIST of records: `left` of them are left from the position `at` on and end at `end`, and K holds of them

@@ -1,5 +1,5 @@
 -- `sheet::add_during` meets its contract. Assumes nothing.
-use Prim.Native.Nat.{ℕ, _-_, min}
+use Prim.Native.Nat.{_-_, min}
 use mathlib.Core.Path.{_≡_, refl}
 use native.Mathlib.Omega.{arith}
 use lib.ListN.{length}
