@@ -1,6 +1,5 @@
 -- What the fillers ask holds at every point of an accepted file, one list after the other. Assumes nothing.
 use Prim.Native.Nat.{ℕ, _^_, _≤_, _<_}
-use mathlib.Core.Path.{_≡_}
 use mathlib.Core.List.{List}
 use native.Mathlib.Omega.{arith}
 use Rattle.rules.specs.declared.PointHead.{PointHead}
