@@ -4,11 +4,6 @@ use Rattle.unit.proofs.Breach13.{refused-judged, over-judged, accepted-
 use borrow.Author.Needs.{needs}
 use Rattle.unit.proofs.judge.Statement.{statement}
 use Rattle.unit.proofs.judge.Tie as tie
-use Rattle.unit.proofs.judge.Reads as reads
-use Rattle.unit.proofs.judge.Lts as lts
-use Rattle.format.proofs.check.Reads as check-reads
-use Rattle.providers.proofs.Listed.none.Reads as none-reads
-use Rattle.providers.proofs.provider_list.Reads as provider-list-reads
 
 check-requires : tie.Need-check-requires
 check-requires c κs = search needs

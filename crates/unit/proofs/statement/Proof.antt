@@ -7,29 +7,19 @@ use Rattle.rules.proofs.Kept.{answered, refused, accepted-file}
 use borrow.Author.Needs.{needs}
 use Rattle.unit.proofs.statement.Statement.{statement}
 use Rattle.unit.proofs.statement.Tie as tie
-use Rattle.unit.proofs.statement.Reads as reads
-use Rattle.unit.proofs.statement.Lts as lts
-use Rattle.unit.proofs.judge.Reads as judge-reads
-use Rattle.unit.proofs.statement_at.Reads as statement-at-reads
-use Rattle.unit.proofs.zero_statement.Reads as zero-statement-reads
 
--- src/lib.rt:94:9
 judge-requires : tie.Need-judge-requires
 judge-requires c κs = search needs
 
--- src/lib.rt:97:13
 zero-statement-requires : tie.Need-zero-statement-requires
 zero-statement-requires c κs = search needs
 
--- src/lib.rt:98:9
 returns : tie.Need-returns
 returns c = (ap₂ (λ (n : ℕ) (s : Statement). record { number = n; statement = s }) refl (c .zero-statement .ensures)) ∙ sym (refused (now (c .before .before .before .before .args .file)) (c .before .before .before .before .args .place) _ (sym (c .before .before .judge .ensures .number)) (c .before .if1 .taken))
 
--- src/lib.rt:100:5
 statement-at-requires : tie.Need-statement-at-requires
 statement-at-requires c κs = accepted-file (now (c .before .before .before .args .file)) (sym (c .before .judge .ensures .number) ∙ c .if1 .left)
 
--- src/lib.rt:91:1
 returns-2 : tie.Need-returns-2
 returns-2 c = c .statement-at .ensures ∙ sym (answered (now (c .before .before .before .before .args .file)) (sym (c .before .before .judge .ensures .number) ∙ c .before .if1 .left) (c .before .before .before .before .args .place))
 

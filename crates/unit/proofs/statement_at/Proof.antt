@@ -8,12 +8,6 @@ use Rattle.records.proofs.Walk.{left-within, point-within, points-start}
 use Rattle.unit.proofs.Places.{AtPlace, past-last, place-start, place-next, place-point, place-found}
 use Rattle.unit.proofs.statement_at.Statement.{statement}
 use Rattle.unit.proofs.statement_at.Tie as tie
-use Rattle.unit.proofs.statement_at.Reads as reads
-use Rattle.unit.proofs.statement_at.Lts as lts
-use Rattle.point.proofs.point_statement.Reads as point-statement-reads
-use Rattle.records.proofs.after_point.Reads as after-point-reads
-use Rattle.records.proofs.header.Reads as header-reads
-use Rattle.unit.proofs.zero_statement.Reads as zero-statement-reads
 
 abbrev Inv-loop : tie.InvT-loop
 Inv-loop file place head first bands at₀ i₀ at i = AtPlace file head place i at
@@ -21,51 +15,39 @@ Inv-loop file place head first bands at₀ i₀ at i = AtPlace file head place i
 abbrev μ-loop : tie.MeasureT-loop
 μ-loop file place head first bands at₀ i₀ at i = place - i
 
--- src/lib.rt:65:9
 header-requires : tie.Need-header-requires Inv-loop μ-loop
 header-requires c κs = search needs
 
--- src/lib.rt:69:13
 zero-statement-requires : tie.Need-zero-statement-requires Inv-loop μ-loop
 zero-statement-requires c κs = search needs
 
--- src/lib.rt:70:9
 returns : tie.Need-returns Inv-loop μ-loop
 returns c = past-last (now (c .before .before .before .before .before .before .before .args .file)) (accepted _ (c .before .before .before .before .before .before .before .pre)) (c .before .before .before .before .before .header .ensures) (c .before .before .before .before .before .before .before .args .place) (c .zero-statement .ensures) (c .before .if1 .taken)
 
--- src/lib.rt:76:29
 mul-at : tie.Need-mul-at Inv-loop μ-loop
 mul-at c = omega (arith, left-within _ (points-start (now (c .before .before .before .before .before .before .args .file)) (accepted _ (c .before .before .before .before .before .before .pre)) (c .before .before .before .before .header .ensures)))
 
--- src/lib.rt:76:18
 add-at : tie.Need-add-at Inv-loop μ-loop
 add-at c = omega (arith, left-within _ (points-start (now (c .before .before .before .before .before .before .before .args .file)) (accepted _ (c .before .before .before .before .before .before .before .pre)) (c .before .before .before .before .before .header .ensures)))
 
--- src/lib.rt:78:5
 loop-holds : tie.Need-loop-holds Inv-loop μ-loop
 loop-holds c = place-start (now (c .before .before .before .before .before .before .before .args .file)) (accepted _ (c .before .before .before .before .before .before .before .pre)) (c .before .before .before .before .before .header .ensures) (c .before .before .before .before .before .before .before .args .place)
 
--- src/lib.rt:79:13
 after-point-requires : tie.Need-after-point-requires Inv-loop μ-loop
 after-point-requires c κs = point-within _ (c .before .loop .inv .left) (omega (arith, c .before .loop .inv .to, c .before .before .before .if1 .left))
 
--- src/lib.rt:81:9
 add-i : tie.Need-add-i Inv-loop μ-loop
 add-i c = search needs
 
--- src/lib.rt:78:5
 loop-less : tie.Need-loop-less Inv-loop μ-loop
 loop-less c = search needs
 
--- src/lib.rt:78:5
 loop-again : tie.Need-loop-again Inv-loop μ-loop
 loop-again c = place-next (now (c .before .before .before .before .before .before .before .before .before .before .args .file)) (accepted _ (c .before .before .before .before .before .before .before .before .before .before .pre)) (c .before .before .before .before .before .before .before .before .header .ensures) (c .before .before .before .before .before .before .before .before .before .before .args .place) (c .before .before .loop .inv) (omega (arith, c .before .before .before .before .if1 .left)) (c .before .loop-test .taken) (c .after-point .ensures)
 
--- src/lib.rt:83:9
 point-statement-requires : tie.Need-point-statement-requires Inv-loop μ-loop
 point-statement-requires c κs = place-point (now (c .before .before .before .before .before .before .before .before .before .args .file)) (accepted _ (c .before .before .before .before .before .before .before .before .before .pre)) (c .before .before .before .before .before .before .before .header .ensures) (c .before .before .before .before .before .before .before .before .before .args .place) (c .before .loop .inv) (omega (arith, c .before .before .before .if1 .left))
 
--- src/lib.rt:61:1
 returns-2 : tie.Need-returns-2 Inv-loop μ-loop
 returns-2 c = place-found (now (c .before .before .before .before .before .before .before .before .before .before .args .file)) (accepted _ (c .before .before .before .before .before .before .before .before .before .before .pre)) (c .before .before .before .before .before .before .before .before .header .ensures) (c .before .before .before .before .before .before .before .before .before .before .args .place) (c .before .before .loop .inv) (omega (arith, c .before .before .before .before .if1 .left)) (omega (arith, c .before .loop-test .left)) (c .point-statement .ensures)
 
