@@ -1,8 +1,9 @@
 -- Of records one after the other: there are as many as the count says, and no list ends before it begins. So where the last record of a file
 -- ends within it, every record does. Assumes nothing.
-use Prim.Native.Nat.{ℕ, zero, suc, _≤_}
-use mathlib.Core.Path.{_≡_, refl, ap}
+use Prim.Native.Nat.{ℕ, zero, suc, _+_, _*_, _≤_}
+use mathlib.Core.Path.{_≡_, refl, ap, _∙_}
 use mathlib.Core.List.{List, [], _∷_}
+use native.Mathlib.Nat.{suc-mul}
 use native.Mathlib.Omega.{arith}
 use lib.ListN.{length}
 use Rattle.rules.specs.File.{Meter, Point, records, after, transfersFrom, afterTransfer, afterTransfers, afterCondition, afterConditions, readsFrom, afterRead, afterMeter, afterPoint}
@@ -31,3 +32,13 @@ point-forward at p =
       forward {next = λ at c. afterCondition at} (λ at c. omega arith) conditionsFrom (p .supply .conditions),
       forward meter-forward metersFrom (p .supply .meters),
     )
+
+-- where each record is as wide
+pub after-wide : {A : Type 0} (wide at : ℕ) (xs : List A) → after (λ at x. at + wide) at xs ≡ at + length xs * wide
+unfolding after
+after-wide wide at [] = omega arith
+after-wide wide at (x ∷ xs) = omega (arith, after-wide wide (at + wide) xs, suc-mul (length xs) wide)
+
+pub records-wide : {A : Type 0} (wide : ℕ) (here : ℕ → A) (n at : ℕ) → after (λ at x. at + wide) at (records here (λ at x. at + wide) n at) ≡ at + n * wide
+records-wide wide here n at =
+    after-wide wide at (records here _ n at) ∙ ap (λ k. at + k * wide) (length-records here (λ at x. at + wide) n at)

@@ -4,6 +4,8 @@ ghost use mathlib.Core.Path.{_≡_};
 ghost use Prim.Native.Nat.{_<_, _^_};
 ghost use Rattle.rules.specs.File.{headerAt, bandAt, pointHeadAt, transferAt, conditionAt, meterHeadAt, readAt};
 ghost use Rattle.rules.specs.File.{bandsAt, afterBand, transfersFrom, afterTransfer, afterCondition, readsFrom, afterRead};
+ghost use Rattle.rules.specs.File.{meters, afterMeters, pointAt, afterPoint};
+ghost use Rattle.records.specs.Lists.{afterLists};
 use bits::Cursor;
 use rules::Band;
 use rules::Condition;
@@ -213,4 +215,42 @@ pub fn read(file: &[u8], c: Cursor) -> TakenRead
         },
         next,
     }
+}
+
+// The cursor after some meters and their reads.
+fn after_meters(file: &[u8], c: Cursor, count: u64) -> Cursor
+    requires { ⌜ afterMeters (c .at) (meters (now file) count (c .at)) < 2 ^ 32 ⌝ }
+    ensures { λ r. ⌜ r .at ≡ afterMeters (c .at) (meters (now (file .entry)) count (c .at)) ⌝ }
+{
+    let mut at = c.at;
+    let mut left = count;
+    while 0 < left {
+        let taken = meter(file, Cursor { at });
+        let reads = taken.value.reads as usize;
+        at = taken.next.at + reads * 44;
+        left -= 1;
+    }
+    Cursor { at }
+}
+
+// The cursor after a point's conditions and meters, of the cursor after its transfers. Records of one width are passed over by their count.
+pub fn after_lists(file: &[u8], c: Cursor, head: PointHead) -> Cursor
+    requires { ⌜ afterLists (now file) (c .at) head < 2 ^ 32 ⌝ }
+    ensures { λ r. ⌜ r .at ≡ afterLists (now (file .entry)) (c .at) head ⌝ }
+{
+    let conditions = head.conditions as usize;
+    let at = c.at + conditions * 72;
+    after_meters(file, Cursor { at }, head.meters)
+}
+
+// The cursor after a point.
+pub fn after_point(file: &[u8], c: Cursor) -> Cursor
+    requires { ⌜ afterPoint (c .at) (pointAt (now file) (c .at)) < 2 ^ 32 ⌝ }
+    ensures { λ r. ⌜ r .at ≡ afterPoint (c .at) (pointAt (now (file .entry)) (c .at)) ⌝ }
+{
+    let taken = point(file, c);
+    let head = taken.value;
+    let transfers = head.transfers as usize;
+    let at = taken.next.at + transfers * 32;
+    after_lists(file, Cursor { at }, head)
 }

@@ -151,6 +151,12 @@ supplies file = map (λ point. point .supply) (file .points)
 untraded-supplies : (file : File) → supplies (untraded file) ≡ supplies file
 untraded-supplies file = map-map (λ point. point .supply) _ (file .points)
 
+-- a refused file's answer
+pub refused : (file : List ℕ) (place n : ℕ) → refusal file ≡ n → (n ≡ 0 → ⊥) → statementAnswer file place ≡ record { number = n; statement = zeroStatement }
+unfolding statementAnswer
+refused file place zero e h = absurd (h refl)
+refused file place (suc n) e h = rw (e, statementAnswer)
+
 pub same-statements : SameStatements
 same-statements a b ha hb alike place =
     let same = sym (untraded-supplies (decode a)) ∙ (ap supplies alike ∙ untraded-supplies (decode b)) in
@@ -185,9 +191,12 @@ unfolding firstOr
 first-none zero last h = refl
 first-none (suc n) last h = h
 
-pub accepted-good : (bytes : List ℕ) → Accepted bytes → Good bytes
+pub accepted-file : (bytes : List ℕ) → Accepted bytes → fileRefusal bytes ≡ 0
 unfolding refusal
-accepted-good bytes h = good bytes (first-none (fileRefusal bytes) _ h)
+accepted-file bytes h = first-none (fileRefusal bytes) _ h
+
+pub accepted-good : (bytes : List ℕ) → Accepted bytes → Good bytes
+accepted-good bytes h = good bytes (accepted-file bytes h)
 
 pub demand-3 : Demand3
 demand-3 =

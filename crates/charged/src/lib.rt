@@ -1,0 +1,31 @@
+// The charged days of a supply point: those of the settlement year from its connection day, before its disconnection day.
+ghost use mathlib.Core.Path.{_≡_};
+ghost use Prim.Native.Nat.{_≤_};
+ghost use Rattle.rules.specs.File.{Tariff, Supply};
+ghost use Rattle.rules.specs.Charges.{chargedFrom, chargedCount};
+ghost use Rattle.charged.specs.Charged.{ChargedOf};
+use exact::greatest;
+use exact::least;
+use exact::past;
+use rules::Day;
+use rules::Days;
+
+// So many days from one on. A point may have none.
+pub struct Charged {
+    pub from: Day,
+    pub count: Days,
+}
+
+// The charged days in a year's file of a point with these days of connection and disconnection.
+pub fn charged_days(year: u64, connected: u64, disconnected: u64) -> Charged
+    requires { ⌜ (2020 ≤ year) × (year ≤ 2098) ⌝ }
+    ensures { λ r. ⌜ ChargedOf year connected disconnected r ⌝ }
+{
+    let start = Day::first_of_year(year);
+    let end = Day::first_of_year(year + 1);
+    let from = greatest(start.0, connected);
+    Charged {
+        from: Day(from),
+        count: Days(past(least(end.0, disconnected), from)),
+    }
+}

@@ -1,0 +1,5 @@
+pub mod Sums
+pub mod Parts
+pub mod Point
+pub mod Bounds
+pub mod Filling

@@ -1,0 +1,129 @@
+-- Laws of sheets that are added to. Assumes nothing.
+use Prim.Native.Nat.{ℕ, _+_, _-_, _*_, _/_, _≤_, _<_, _^_, min}
+use mathlib.Core.Path.{_≡_, refl, ap, _∙_, subst}
+use mathlib.Core.List.{List}
+use native.Mathlib.Nat.{le-refl, mul-le-mul, mul-le-mul-left, div-le-of-le-mul, mul-comm}
+use native.Mathlib.Decide.{decLt}
+use native.Mathlib.Omega.{arith}
+use borrow.Author.Tests.{le-leb, lt-leb, lt-ltb, le-ltb}
+use lib.ListN.{length, getD, set}
+use Rattle.rules.specs.Sums.{only}
+use Rattle.rules.specs.Litres.{carriedBefore}
+use Rattle.sheet.specs.Sheets.{Grown, Room}
+use Rattle.sheet.specs.Meters.{during, carried, spread, Spreadable}
+use Rattle.sheet.proofs.Laws.{Written, written-none, written-more}
+
+-- a figure on some days
+module _ (first last x d : ℕ) where
+  pub during-in : first ≤ d → d < last → during first last x d ≡ x
+  unfolding during only
+  during-in h k = simp (le-leb first d h, lt-ltb d last k)
+
+  pub during-before : d < first → during first last x d ≡ 0
+  unfolding during only
+  during-before h = simp (lt-leb first d h)
+
+  pub during-after : last ≤ d → during first last x d ≡ 0
+  unfolding during only
+  during-after k = elim (decLt d first) [
+    | yes lt ↦ during-before lt
+    | no ge ↦ let h : first ≤ d = omega arith in simp (le-leb first d h, le-ltb d last k)
+  ]
+
+  pub during-most : (b : ℕ) → (first ≤ d → d < last → x ≤ b) → during first last x d ≤ b
+  during-most b h = elim (decLt d first) [
+    | yes lt ↦ omega (arith, during-before lt)
+    | no ge ↦ elim (decLt d last) [
+      | yes lt ↦ omega (arith, during-in (omega arith) lt, h (omega arith) lt)
+      | no ge′ ↦ omega (arith, during-after (omega arith))
+    ]
+  ]
+
+-- in a loop over the days from `first` on, before `last`: the entries below i have x of their day more
+pub record Adding (before after : List ℕ) (start first last : ℕ) (x : ℕ → ℕ) (lo i : ℕ) : Type 0 where
+  pub written : Written before after (λ i. getD before i 0 + during first last (x (start + i)) (start + i)) lo i
+  pub low : lo ≡ min (first - start) (length before)
+  pub begun : lo ≤ i
+
+module _ {l : List ℕ} {start first last : ℕ} (x : ℕ → ℕ) {lo : ℕ} where
+  pub adding-none : lo ≡ min (first - start) (length l) → Adding l l start first last x lo lo
+  adding-none e = record { written = written-none _ _ _; low = e; begun = le-refl lo }
+
+  module _ {a : List ℕ} {i end : ℕ} (u : Adding l a start first last x lo i) (e : end ≡ min (last - start) (length l)) where
+    pub adding-day : i < end → (first ≤ start + i) × (start + i < last) × (i < length l)
+    adding-day h = omega (arith, u .low, u .begun)
+
+    pub adding-room : Room l start (λ d. during first last (x d) d) → i < end → getD a i 0 + x (start + i) < 2 ^ 64
+    adding-room r h =
+        let day = adding-day h in
+        omega (arith, u .written .past i (le-refl i), r .fits i (day .2), during-in first last (x (start + i)) (start + i) (day .0) (day .1))
+
+    pub adding-more : {v : ℕ} → i < end → v ≡ getD a i 0 + x (start + i) → Adding l (set a i v) start first last x lo (i + 1)
+    adding-more {v} h q =
+        let day = adding-day h in
+        record {
+          written = written-more v (u .written) (u .begun) (day .2) (omega (arith, u .written .past i (le-refl i), during-in first last (x (start + i)) (start + i) (day .0) (day .1)));
+          low = u .low;
+          begun = omega (arith, u .begun);
+        }
+
+    pub adding-done : end ≤ i → Grown l a start (λ d. during first last (x d) d)
+    adding-done h =
+        record {
+          long = u .written .long;
+          each = λ j k. elim (decLt j lo) [
+            | yes lt ↦ omega (arith, u .written .under j lt, during-before first last (x (start + j)) (start + j) (omega (arith, u .low)))
+            | no ge ↦ elim (decLt j i) [
+              | yes lt ↦ u .written .inside j (omega arith) lt
+              | no ge′ ↦ omega (arith, u .written .past j (omega arith), during-after first last (x (start + j)) (start + j) (omega arith))
+            ]
+          ];
+        }
+
+-- growth by a function that is the same
+pub grown-as : {a b : List ℕ} {start : ℕ} {f g : ℕ → ℕ} → ((d : ℕ) → f d ≡ g d) → Grown a b start f → Grown a b start g
+grown-as {a} {start = start} e p = record { long = p .long; each = λ i h. p .each i h ∙ ap (λ x. getD a i 0 + x) (e (start + i)) }
+
+pub room-as : {a : List ℕ} {start : ℕ} {f g : ℕ → ℕ} → ((d : ℕ) → f d ≡ g d) → Room a start f → Room a start g
+room-as {start = start} e r = record { fits = λ i h. omega (arith, e (start + i), r .fits i h) }
+
+-- THE REST: in a loop over records that add, what the sheet has and what is still to come are what it had and the whole
+pub record Rest (before sheet : List ℕ) (start : ℕ) (rest whole : ℕ → ℕ) : Type 0 where
+  pub long : length sheet ≡ length before
+  pub each : (i : ℕ) → i < length before → getD sheet i 0 + rest (start + i) ≡ getD before i 0 + whole (start + i)
+
+pub rest-all : {a : List ℕ} {start : ℕ} {whole : ℕ → ℕ} → Rest a a start whole whole
+rest-all = record { long = refl; each = λ i h. refl }
+
+module _ {l a : List ℕ} {start : ℕ} {rest whole : ℕ → ℕ} (u : Rest l a start rest whole) where
+  pub rest-room : {f : ℕ → ℕ} → Room l start whole → ((d : ℕ) → f d ≤ rest d) → Room a start f
+  rest-room r h =
+      record {
+        fits = λ i k. omega (arith, u .each i (omega (arith, u .long)), r .fits i (omega (arith, u .long)), h (start + i));
+      }
+
+  pub rest-more : {b : List ℕ} {f next : ℕ → ℕ} → Grown a b start f → ((d : ℕ) → rest d ≡ f d + next d) → Rest l b start next whole
+  rest-more g e =
+      record {
+        long = g .long ∙ u .long;
+        each = λ i k. omega (arith, u .each i k, g .each i (omega (arith, u .long)), e (start + i));
+      }
+
+  pub rest-none : ((d : ℕ) → rest d ≡ 0) → Grown l a start whole
+  rest-none z = record { long = u .long; each = λ i k. omega (arith, u .each i k, z (start + i)) }
+
+-- what fits in the parts of an advance
+pub amount-fits : {litres parts first last : ℕ} → Spreadable litres parts first last → litres * parts ≤ 1000000000000000
+amount-fits s = omega (arith, mul-le-mul (s .few) (s .whole))
+
+pub days-fit : {litres parts first last : ℕ} (j : ℕ) → Spreadable litres parts first last → j ≤ 3660 → litres * parts * j ≤ 3660000000000000000
+days-fit j s h = omega (arith, mul-le-mul (amount-fits s) h)
+
+-- a day of an advance carries at most the litres × parts
+pub spread-most : {litres parts first last : ℕ} (d : ℕ) → Spreadable litres parts first last → spread litres parts first last d ≤ litres * parts
+unfolding spread carried carriedBefore
+spread-most {litres} {parts} {first} {last} d s =
+    during-most first last _ d (litres * parts) λ h k.
+    let m = 10000 * (last - first) in
+    let top : litres * parts * (d - first + 1) / m ≤ litres * parts = div-le-of-le-mul m (subst (λ x. litres * parts * (d - first + 1) ≤ x) (mul-comm (litres * parts) m) (mul-le-mul-left (litres * parts) (omega (arith, s .some)))) in
+    omega arith

@@ -1,0 +1,184 @@
+-- The four sheets of meters, one meter at a time. Assumes nothing.
+use Prim.Native.Nat.{ℕ, _+_, _-_, _*_, _^_, _≤_, _<_, zero-le}
+use mathlib.Core.Path.{_≡_, refl, sym, _∙_, subst}
+use mathlib.Core.Bool.{Bool, true, false, cond}
+use mathlib.Core.List.{List, [], _∷_}
+use native.Mathlib.Nat.{mul-le-mul}
+use native.Mathlib.Omega.{arith}
+use lib.ListN.{length}
+use lib.Dec.{eqb}
+use Rattle.rules.specs.declared.Read.{Read}
+use Rattle.rules.specs.declared.Band.{Band}
+use Rattle.rules.specs.declared.MeterHead.{MeterHead}
+use Rattle.rules.specs.Sums.{over}
+use Rattle.rules.specs.Lists.{All}
+use Rattle.rules.specs.File.{Meter, meterHead, meterHeadAt, reads, readsFrom, afterReads, meterAt, afterMeter}
+use Rattle.rules.specs.Litres.{advance, litresPerCount, fromReads, meterLitres}
+use Rattle.rules.specs.Charges.{noBand, firstBand, bandFor}
+use Rattle.rules.specs.Good.{GoodBand, GoodRead, GoodAdvance, GoodAdvances, GoodMeter}
+use Rattle.sheet.specs.Sheets.{Overwritten, Grown, Room}
+use Rattle.sheet.specs.Meters.{during, Spreadable, meterOf, weighed, MeterSheet, litresSheet, annualSheet, allowanceSheet, thresholdSheet, meterFigure, four, MeterRoom, MeterAdded, MetersFilled}
+use Rattle.sheet.proofs.Laws.{all-days, latest-all}
+use Rattle.sheet.proofs.Growth.{during-most, grown-as, room-as, Rest, rest-all, rest-room, rest-more, rest-none, spread-most, amount-fits}
+use Rattle.sheet.proofs.Readings.{advance-fits, spreadable, between-is}
+
+-- a figure of a band: 0 where there is none, and at most 10 ^ 9
+pub record Figure (figure : Band → ℕ) : Type 0 where
+  pub none : figure noBand ≡ 0
+  pub most : (b : Band) → GoodBand b → figure b ≤ 1000000000
+
+pub annual-figure : Figure (λ b. b .annual)
+unfolding noBand
+annual-figure = record { none = refl; most = λ b g. g .annual }
+
+pub allowance-figure : Figure (λ b. b .allowance)
+unfolding noBand
+allowance-figure = record { none = refl; most = λ b g. omega (arith, g .allowance) }
+
+pub threshold-figure : Figure (λ b. b .threshold)
+unfolding noBand
+threshold-figure = record { none = refl; most = λ b g. omega (arith, g .threshold) }
+
+pub band-most : {figure : Band → ℕ} → Figure figure → (bs : List Band) (size : ℕ) → All GoodBand bs → figure (bandFor bs size) ≤ 1000000000
+unfolding bandFor firstBand
+band-most {figure} f bs size all = pick (eqb size 0) (latest-all Most (λ b. b .size) (firstBand bs) bs size (first bs (each bs all)) (each bs all))
+  where
+    Most : Band → Type 0
+    Most b = figure b ≤ 1000000000
+
+    none-most : Most noBand
+    none-most = omega (arith, f .none)
+
+    each : (bs : List Band) → All GoodBand bs → All Most bs
+    each [] all = tt
+    each (b ∷ bs) all = (f .most b (all .0), each bs (all .1))
+
+    first : (bs : List Band) → All Most bs → Most (firstBand bs)
+    first [] all = none-most
+    first (b ∷ bs) all = all .0
+
+    pick : (t : Bool) {b : Band} → Most b → Most (cond t noBand b)
+    pick true h = none-most
+    pick false h = h
+
+-- ONE METER, from its head
+module _ (file : List ℕ) (at : ℕ) {next : ℕ} {head : MeterHead} (e : (head ≡ meterHeadAt file at) × (next ≡ readsFrom at)) where
+  meter-is : meterOf head (reads file (head .reads) next) ≡ meterAt file at
+  meter-is = rw (e .0, e .1)
+
+  meter-after : afterReads next (reads file (head .reads) next) ≡ afterMeter at (meterAt file at)
+  meter-after = rw (e .0, e .1)
+
+  pub meter-asks : {sheet : List ℕ} {start : ℕ} → afterMeter at (meterAt file at) < 2 ^ 32 → GoodMeter (meterAt file at) → Room sheet start (meterLitres (meterAt file at)) →
+      (afterReads next (reads file (head .reads) next) < 2 ^ 32) × (GoodMeter (meterOf head (reads file (head .reads) next)) × Room sheet start (meterLitres (meterOf head (reads file (head .reads) next))))
+  meter-asks w g r = (rw meter-after w, (rw meter-is g, rw meter-is r))
+
+  module _ (bs : List Band) {band : Band} (q : band ≡ bandFor bs (head .size)) where
+    weighed-is : (figure : Band → ℕ) (d : ℕ) → during (head .installed) (head .removed) (figure band * head .share) d ≡ weighed figure bs (meterAt file at) d
+    unfolding weighed
+    weighed-is figure d = rw (q, e .0)
+
+    pub weight-fits : {figure : Band → ℕ} → Figure figure → All GoodBand bs → GoodMeter (meterAt file at) → figure band * head .share ≤ 100000000000
+    weight-fits {figure} f all g =
+        let b : figure band ≤ 1000000000 = rw q (band-most f bs (head .size) all) in
+        let s : head .share ≤ 100 = rw (e .0) (g .head .share) in
+        omega (arith, mul-le-mul b s)
+
+    pub weight-room : {sheet : List ℕ} {start : ℕ} (figure : Band → ℕ) → Room sheet start (weighed figure bs (meterAt file at)) →
+        Room sheet start (during (head .installed) (head .removed) (figure band * head .share))
+    weight-room figure = room-as (λ d. sym (weighed-is figure d))
+
+    pub meter-added : {l n a t l′ n′ a′ t′ : List ℕ} {start last : ℕ} →
+        (last ≡ afterReads next (reads file (head .reads) next)) × Grown l l′ start (meterLitres (meterOf head (reads file (head .reads) next))) →
+        Grown n n′ start (during (head .installed) (head .removed) (band .annual * head .share)) →
+        Grown a a′ start (during (head .installed) (head .removed) (band .allowance * head .share)) →
+        Grown t t′ start (during (head .installed) (head .removed) (band .threshold * head .share)) →
+        (last ≡ afterMeter at (meterAt file at)) × MeterAdded (four l n a t) (four l′ n′ a′ t′) start bs (meterAt file at)
+    meter-added {l} {n} {a} {t} {l′} {n′} {a′} {t′} {start} r gn ga gt = (r .0 ∙ meter-after, each)
+      where
+        each : MeterAdded (four l n a t) (four l′ n′ a′ t′) start bs (meterAt file at)
+        each litresSheet = subst (λ m. Grown l l′ start (meterLitres m)) meter-is (r .1)
+        each annualSheet = grown-as (weighed-is (λ b. b .annual)) gn
+        each allowanceSheet = grown-as (weighed-is (λ b. b .allowance)) ga
+        each thresholdSheet = grown-as (weighed-is (λ b. b .threshold)) gt
+
+-- WHAT FITS: a meter's figures of a day
+pub pair-spreads : (m : Meter) (a b : Read) → GoodMeter m → GoodRead (meterHead m) a → GoodAdvance (meterHead m) a b → Spreadable (advance m a b) (m .share * m .returned) (a .day) (b .day)
+unfolding advance litresPerCount
+pair-spreads m a b g r v = spreadable (g .head) v (advance-fits refl (g .head) r v .litres)
+
+advances-most : (m : Meter) → GoodMeter m → (rs : List Read) → All (GoodRead (meterHead m)) rs → GoodAdvances (meterHead m) rs → (d : ℕ) → fromReads m rs d ≤ length rs * 1000000000000000
+unfolding fromReads
+advances-most m g [] each vs d = zero-le
+advances-most m g (a ∷ []) each vs d = zero-le
+advances-most m g (a ∷ b ∷ rs) each vs d =
+    let s = pair-spreads m a b g (each .0) (vs .0) in
+    omega (arith, advances-most m g (b ∷ rs) (each .1) (vs .1) d, between-is m a b d, spread-most d s, amount-fits s)
+
+litres-most : (m : Meter) → GoodMeter m → (d : ℕ) → meterLitres m d ≤ 40000000000000000
+unfolding meterLitres
+litres-most m g d = omega (arith, advances-most m g (m .reads) (g .reads) (g .advances) d, g .head .fewReads)
+
+pub weighed-most : {figure : Band → ℕ} → Figure figure → (bs : List Band) → All GoodBand bs → (m : Meter) → GoodMeter m → (d : ℕ) → weighed figure bs m d ≤ 100000000000
+unfolding weighed
+weighed-most f bs all m g d = during-most _ _ _ d 100000000000 (λ _ _. omega (arith, mul-le-mul (band-most f bs (m .size) all) (g .head .share)))
+
+figure-most : (bs : List Band) → All GoodBand bs → (s : MeterSheet) (m : Meter) → GoodMeter m → (d : ℕ) → meterFigure bs s m d ≤ 40000000000000000
+figure-most bs all litresSheet m g d = litres-most m g d
+figure-most bs all annualSheet m g d = omega (arith, weighed-most annual-figure bs all m g d)
+figure-most bs all allowanceSheet m g d = omega (arith, weighed-most allowance-figure bs all m g d)
+figure-most bs all thresholdSheet m g d = omega (arith, weighed-most threshold-figure bs all m g d)
+
+pub over-most : (f : Meter → ℕ) (b : ℕ) → ((m : Meter) → GoodMeter m → f m ≤ b) → (ms : List Meter) → All GoodMeter ms → over ms f ≤ length ms * b
+unfolding over
+over-most f b h [] all = zero-le
+over-most f b h (m ∷ ms) all = omega (arith, h m (all .0), over-most f b h ms (all .1))
+
+-- METERS: what is left of a point's meters; `all` are all of them
+pub record MetersLeft (before after : MeterSheet → List ℕ) (start : ℕ) (bs : List Band) (all left : List Meter) : Type 0 where
+  pub good : All GoodMeter left
+  pub room : (s : MeterSheet) → Room (before s) start (λ d. over all (λ m. meterFigure bs s m d))
+  pub rest : (s : MeterSheet) → Rest (before s) (after s) start (λ d. over left (λ m. meterFigure bs s m d)) (λ d. over all (λ m. meterFigure bs s m d))
+
+-- the sheets are cleared before the first
+abbrev pub Cleared : (MeterSheet → List ℕ) → (MeterSheet → List ℕ) → ℕ → Type 0
+Cleared before after start = (s : MeterSheet) → Overwritten (before s) (after s) start 0 0
+
+pub cleared : {l n a t l′ n′ a′ t′ : List ℕ} {start : ℕ} → Overwritten l l′ start 0 0 → Overwritten n n′ start 0 0 → Overwritten a a′ start 0 0 → Overwritten t t′ start 0 0 →
+    Cleared (four l n a t) (four l′ n′ a′ t′) start
+cleared ol on oa ot litresSheet = ol
+cleared ol on oa ot annualSheet = on
+cleared ol on oa ot allowanceSheet = oa
+cleared ol on oa ot thresholdSheet = ot
+
+module _ {l a : MeterSheet → List ℕ} {start : ℕ} (o : Cleared l a start) where
+  pub meters-begin : {bs : List Band} {ms : List Meter} → All GoodBand bs → All GoodMeter ms → length ms ≤ 16 → MetersLeft a a start bs ms ms
+  meters-begin {bs} {ms} priced good few =
+      record {
+        good = good;
+        room = λ s. record {
+          fits = λ i k.
+              omega (
+                arith,
+                all-days i (o s) (omega (arith, o s .long)),
+                over-most (λ m. meterFigure bs s m (start + i)) 40000000000000000 (λ m g. figure-most bs priced s m g (start + i)) ms good,
+                few,
+              );
+        };
+        rest = λ s. rest-all;
+      }
+
+  pub meters-end : {b : MeterSheet → List ℕ} {bs : List Band} {ms : List Meter} → MetersLeft a b start bs ms [] → MetersFilled l b start bs ms
+  unfolding over
+  meters-end u s =
+      let g = rest-none (u .rest s) (λ d. refl) in
+      record { long = g .long ∙ o s .long; each = λ i h. omega (arith, g .each i (omega (arith, o s .long)), all-days i (o s) h) }
+
+module _ {l a : MeterSheet → List ℕ} {start : ℕ} {bs : List Band} {all : List Meter} (m : Meter) (left : List Meter) (u : MetersLeft l a start bs all (m ∷ left)) where
+  pub meters-room : MeterRoom a start bs m
+  unfolding over
+  meters-room s = rest-room (u .rest s) (u .room s) (λ d. omega arith)
+
+  pub meters-turn : {b : MeterSheet → List ℕ} → MeterAdded a b start bs m → MetersLeft l b start bs all left
+  unfolding over
+  meters-turn g = record { good = u .good .1; room = u .room; rest = λ s. rest-more (u .rest s) (g s) (λ d. refl) }

@@ -1,0 +1,105 @@
+-- The fillers' loops over the records of a file, one record at a time. Assumes nothing.
+use Prim.Native.Nat.{ℕ, zero, suc, _-_, _*_, _≤_, _<_, zero-le}
+use mathlib.Core.Path.{_≡_, sym, ap, _∙_, subst}
+use mathlib.Core.List.{List, [], _∷_}
+use native.Mathlib.Omega.{arith}
+use lib.Dec.{eqb, lit<}
+use Rattle.rules.specs.declared.Transfer.{Transfer}
+use Rattle.rules.specs.declared.Condition.{Condition}
+use Rattle.rules.specs.Sums.{only}
+use Rattle.rules.specs.Lists.{All, latest}
+use Rattle.rules.specs.File.{records, after}
+use Rattle.rules.specs.Charges.{noCondition, afterDiscounts}
+use Rattle.rules.specs.Good.{GoodCondition}
+use Rattle.records.proofs.Positions.{forward}
+use Rattle.sheet.specs.Sheets.{Overwritten}
+use Rattle.sheet.specs.Conditions.{drained, ConditionSheet, vacantSheet, disconnectedSheet, discountedSheet, propertySheet, roadsSheet, conditionFigure, five, ConditionSet, ConditionsFilled}
+use Rattle.sheet.proofs.Laws.{Latest, latest-begin, latest-turn, latest-end, latest-of}
+
+-- ANY LIST of records: `left` of them are left from the position `at` on and end at `end`, and K holds of them
+pub record Ahead {A : Type 0} (here : ℕ → A) (next : ℕ → A → ℕ) (left at end : ℕ) (K : List A → Type 0) : Type 0 where
+  pub ends : after next at (records here next left at) ≡ end
+  pub holds : K (records here next left at)
+
+module _ {A : Type 0} (here : ℕ → A) (next : ℕ → A → ℕ) where
+  records-more : (n at : ℕ) → 0 < n → records here next n at ≡ here at ∷ records here next (n - 1) (next at (here at))
+  unfolding records
+  records-more zero at h = absurd (omega arith)
+  records-more (suc n) at h = ap (λ k. here at ∷ records here next k (next at (here at))) {x = n} {y = suc n - 1} (omega arith)
+
+  -- a record that was read, and those after it
+  module _ (n at : ℕ) {at′ : ℕ} {x : A} (h : 0 < n) (e : (x ≡ here at) × (at′ ≡ next at (here at))) where
+    pub read-one : records here next n at ≡ x ∷ records here next (n - 1) at′
+    read-one = rw (e .0, e .1) (records-more n at h)
+
+    pub read-past : after next at (records here next n at) ≡ after next at′ (records here next (n - 1) at′)
+    unfolding after
+    read-past = rw (e .1) (ap (after next at) (records-more n at h))
+
+module _ {A : Type 0} {here : ℕ → A} {next : ℕ → A → ℕ} {n at end : ℕ} {K : List A → Type 0} (u : Ahead here next n at end K) where
+  module _ {at′ : ℕ} {x : A} (h : 0 < n) (e : (x ≡ here at) × (at′ ≡ next at (here at))) where
+    here-is : K (x ∷ records here next (n - 1) at′)
+    here-is = subst K (read-one here next n at h e) (u .holds)
+
+    -- what K says of the record
+    pub ahead-one : {P : Type 0} → ((xs : List A) → K (x ∷ xs) → P) → P
+    ahead-one f = f _ here-is
+
+    pub ahead-turn : {K′ : List A → Type 0} → ((xs : List A) → K (x ∷ xs) → K′ xs) → Ahead here next (n - 1) at′ end K′
+    ahead-turn f = record { ends = sym (read-past here next n at h e) ∙ u .ends; holds = f _ here-is }
+
+    pub ahead-past : ((at : ℕ) (x : A) → at ≤ next at x) → at′ ≤ end
+    ahead-past step = omega (arith, forward step at′ (records here next (n - 1) at′), read-past here next n at h e, u .ends)
+
+  pub ahead-within : ((at : ℕ) (x : A) → at ≤ next at x) → at ≤ end
+  ahead-within step = omega (arith, forward step at (records here next n at), u .ends)
+
+  pub ahead-done : n ≡ 0 → (at ≡ end) × K []
+  unfolding records after
+  ahead-done z = let v = subst (λ n. Ahead here next n at end K) z u in (v .ends, v .holds)
+
+-- PROVIDERS
+abbrev pub ProvidersLeft : List ℕ → List ℕ → ℕ → List Transfer → List Transfer → Type 0
+ProvidersLeft before sheet start all left = Latest (λ t. t .day) (λ t. t .provider) before sheet start left (latest (λ t. t .day) (λ t. t .provider) 0 all)
+
+-- CONDITIONS
+pub record ConditionsLeft (before after : ConditionSheet → List ℕ) (start : ℕ) (all left : List Condition) : Type 0 where
+  pub good : All GoodCondition left
+  pub so-far : (s : ConditionSheet) →
+      Latest (λ c. c .day) (conditionFigure s) (before s) (after s) start left (λ d. conditionFigure s (latest (λ c. c .day) (λ c. c) noCondition all d))
+
+-- no condition, which stands from day 0 on
+pub good-none : {c : Condition} → c ≡ noCondition → GoodCondition c
+unfolding noCondition
+good-none e = subst GoodCondition (sym e) (record { day = lit< tt; discounts = zero-le; rateable = zero-le })
+
+module _ {l a : ConditionSheet → List ℕ} {start : ℕ} {none : Condition} (e : none ≡ noCondition) (o : ConditionSet l a start none) where
+  clear : (s : ConditionSheet) → Overwritten (l s) (a s) start 0 (conditionFigure s noCondition)
+  unfolding noCondition
+  clear s = subst (λ c. Overwritten (l s) (a s) start (c .day) (conditionFigure s c)) e (o s)
+
+  pub conditions-begin : {cs : List Condition} → All GoodCondition cs → ConditionsLeft a a start cs cs
+  conditions-begin {cs} good =
+      record {
+        good = good;
+        so-far = λ s. latest-begin _ _ cs (clear s) (latest-of (λ c. c .day) (conditionFigure s) noCondition cs);
+      }
+
+  pub conditions-end : {b : ConditionSheet → List ℕ} {cs : List Condition} → ConditionsLeft a b start cs [] → ConditionsFilled l b start cs
+  conditions-end u s = latest-end _ _ (clear s) (u .so-far s)
+
+pub conditions-turn : {l a b : ConditionSheet → List ℕ} {start : ℕ} {all : List Condition} (c : Condition) (left : List Condition) →
+    ConditionSet a b start c → ConditionsLeft l a start all (c ∷ left) → ConditionsLeft l b start all left
+conditions-turn c left o u = record { good = u .good .1; so-far = λ s. latest-turn _ _ (u .so-far s) (o s) }
+
+-- what the functions below `set_condition` compute
+pub condition-set : {v x k p r v′ x′ k′ p′ r′ : List ℕ} {start discounted property roads : ℕ} (c : Condition) → (discounted ≡ afterDiscounts c) × (discounted ≤ 10000) →
+    property ≡ only (eqb (c .property) 1) (c .rateable * discounted) → roads ≡ only (eqb (c .roads) 1) (c .rateable * discounted) →
+    Overwritten v v′ start (c .day) (c .vacant) → Overwritten x x′ start (c .day) (c .disconnected) → Overwritten k k′ start (c .day) discounted →
+    Overwritten p p′ start (c .day) property → Overwritten r r′ start (c .day) roads → ConditionSet (five v x k p r) (five v′ x′ k′ p′ r′) start c
+unfolding drained
+condition-set c e p r vo xo ko po ro vacantSheet = vo
+condition-set c e p r vo xo ko po ro disconnectedSheet = xo
+condition-set c e p r vo xo ko po ro discountedSheet = rw (e .0) at ko
+condition-set c e p r vo xo ko po ro propertySheet = rw (p, e .0) at po
+condition-set c e p r vo xo ko po ro roadsSheet = rw (r, e .0) at ro

@@ -1,0 +1,2 @@
+pub mod Breach13
+pub mod Places
