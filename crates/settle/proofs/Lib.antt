@@ -2,4 +2,5 @@ pub mod Sums
 pub mod Parts
 pub mod Point
 pub mod Bounds
+pub mod Rows
 pub mod Filling
