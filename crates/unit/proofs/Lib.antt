@@ -1,2 +1,3 @@
 pub mod Breach13
 pub mod Places
+pub mod ByValue
