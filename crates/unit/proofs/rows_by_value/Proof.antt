@@ -7,29 +7,19 @@ use Rattle.unit.proofs.ByValue.{refused-rows, accepted-rows, judged-pro
 use borrow.Author.Needs.{needs}
 use Rattle.unit.proofs.rows_by_value.Statement.{statement}
 use Rattle.unit.proofs.rows_by_value.Tie as tie
-use Rattle.unit.proofs.rows_by_value.Reads as reads
-use Rattle.unit.proofs.rows_by_value.Lts as lts
-use Rattle.row.proofs.clear_row.Reads as clear-row-reads
-use Rattle.rows.proofs.rows_of.Reads as rows-of-reads
-use Rattle.unit.proofs.judge.Reads as judge-reads
 
--- src/lib.rt:121:9
 judge-requires : tie.Need-judge-requires
 judge-requires c κs = search needs
 
--- src/lib.rt:124:13
 clear-row-requires : tie.Need-clear-row-requires
 clear-row-requires c κs = search needs
 
--- src/lib.rt:126:9
 returns : tie.Need-returns
 returns c = refused-rows (now (c .before .before .before .before .args .file)) _ (c .before .before .judge .ensures .number) (c .before .if1 .taken) (ap (replicate 64) (c .clear-row .ensures))
 
--- src/lib.rt:135:9
 rows-of-requires : tie.Need-rows-of-requires
 rows-of-requires c κs = (accepted-file (now (c .before .before .before .before .before .args .file)) (sym (c .before .before .before .judge .ensures .number) ∙ c .before .before .if1 .left), judged-providers (now (c .before .before .before .before .before .args .file)) (c .before .before .before .judge .ensures) (sym (c .before .before .before .judge .ensures .number) ∙ c .before .before .if1 .left))
 
--- src/lib.rt:118:1
 returns-2 : tie.Need-returns-2
 returns-2 c = accepted-rows (now (c .before .before .before .before .before .before .args .file)) (sym (c .before .before .before .before .judge .ensures .number) ∙ c .before .before .before .if1 .left) (c .before .before .before .before .judge .ensures .array .few) (c .rows-of .ensures)
 

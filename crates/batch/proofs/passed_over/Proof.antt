@@ -3,8 +3,8 @@ use mathlib.Core.Path.{_≡_, sym}
 use borrow.Author.Needs.{needs}
 use lib.ListN.{length}
 use lib.Seq.{length-take-le}
-use Rattle.check_main.proofs.passed_over.Statement.{statement}
-use Rattle.check_main.proofs.passed_over.Tie as tie
+use Rattle.batch.proofs.passed_over.Statement.{statement}
+use Rattle.batch.proofs.passed_over.Tie as tie
 
 abbrev Inv-loop : tie.InvT-loop
 Inv-loop space₀ count left₀ space left = length space ≡ length space₀
