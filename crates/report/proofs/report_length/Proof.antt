@@ -1,0 +1,16 @@
+-- `report_length` meets its contract: the heading and the blocks. Assumes nothing.
+use lib.ListN.{take}
+use Rattle.report.proofs.Sizes.{report-size}
+use borrow.Author.Needs.{needs}
+use native.Mathlib.Omega.{arith}
+use Rattle.report.proofs.report_length.Statement.{statement}
+use Rattle.report.proofs.report_length.Tie as tie
+
+pub report-length-spec : {M : Type 1} → statement M
+report-length-spec =
+    tie.close
+    (tie.spec
+    (λ c κs. search needs)
+    (λ c κs. search needs)
+    (λ c. search needs)
+    (λ c. let e = report-size (c .before .before .args .service) (c .before .before .args .year) (take (c .before .before .args .count) (c .before .before .args .rows)) in record { is = omega arith; most = omega arith }))
