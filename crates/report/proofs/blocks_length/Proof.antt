@@ -1,11 +1,11 @@
 -- `blocks_length` meets its contract. The loop's invariant: the sum is the length of the blocks of the first k rows, at most 414 for each. Assumes nothing.
 use mathlib.Core.Path.{_≡_, refl, ap}
-use Prim.Native.Nat.{_-_, _*_, _≤_, _<_}
+use Prim.Native.Nat.{_-_, _*_, _≤_}
+use native.Mathlib.Omega.{arith}
+use borrow.Author.Needs.{needs}
 use lib.ListN.{length, take}
 use Rattle.rules.specs.Report.{blocks}
 use Rattle.report.proofs.Rows.{more-size, fits-at}
-use borrow.Author.Needs.{needs}
-use native.Mathlib.Omega.{arith}
 use Rattle.report.proofs.blocks_length.Statement.{statement}
 use Rattle.report.proofs.blocks_length.Tie as tie
 
@@ -33,5 +33,7 @@ blocks-length-spec =
     (λ c. search needs)
     (λ c. let p1 = c .before .before .before in
     let s = p1 .before in
-    let e = more-size (s .args .t1) (p1 .loop .k) (search needs) in omega arith)
-    (λ c. let e : c .before .loop .k ≡ c .before .before .args .count = omega arith in record { is = omega (arith, ap (λ n. length (blocks (take n (c .before .before .args .t1)))) e); most = omega arith }))
+    let e = more-size (s .args .t1) (p1 .loop .k) (search needs) in
+    omega arith)
+    (λ c. let e : c .before .loop .k ≡ c .before .before .args .count = omega arith in
+    record { is = omega (arith, ap (λ n. length (blocks (take n (c .before .before .args .t1)))) e); most = omega arith }))

@@ -1,7 +1,7 @@
 -- `heading_length` meets its contract: by the digits of the year and the service's name. Assumes nothing.
-use Rattle.report.proofs.Sizes.{heading-size}
-use borrow.Author.Needs.{needs}
 use native.Mathlib.Omega.{arith}
+use borrow.Author.Needs.{needs}
+use Rattle.report.proofs.Sizes.{heading-size}
 use Rattle.report.proofs.heading_length.Statement.{statement}
 use Rattle.report.proofs.heading_length.Tie as tie
 
@@ -13,4 +13,5 @@ heading-length-spec =
     (λ c. search needs)
     (λ c κs. search needs)
     (λ c. search needs)
-    (λ c. let e = heading-size (c .before .before .args .service) (c .before .before .args .year) in record { is = omega arith; most = omega arith }))
+    (λ c. let e = heading-size (c .before .before .args .service) (c .before .before .args .year) in
+    record { is = omega arith; most = omega arith }))

@@ -1,11 +1,11 @@
 -- `number_length` meets its contract. The loop's invariant: the digits counted and those of what is left are those of n and one more. Assumes nothing.
 use mathlib.Core.Path.{_≡_}
 use Prim.Native.Nat.{_+_, _≤_}
+use native.Mathlib.Omega.{arith}
+use borrow.Author.Needs.{needs}
 use lib.ListN.{length}
 use Rattle.rules.specs.Text.{decimal}
-use Rattle.report.proofs.Laws.{length-one, length-more, length-most}
-use borrow.Author.Needs.{needs}
-use native.Mathlib.Omega.{arith}
+use Rattle.report.proofs.Decimal.{length-one, length-more, length-most}
 use Rattle.report.proofs.number_length.Statement.{statement}
 use Rattle.report.proofs.number_length.Tie as tie
 
@@ -25,4 +25,6 @@ number-length-spec =
     (λ c. search needs)
     (λ c. search needs)
     (λ c. omega (arith, length-more (c .before .loop .left) (c .loop-test .taken)))
-    (λ c. let is = length-one (c .before .loop .left) (c .loop-test .left) in let most = length-most (c .before .before .args .n) (omega arith) in record { is = omega arith; most = omega arith }))
+    (λ c. let one = length-one (c .before .loop .left) (c .loop-test .left) in
+    let most = length-most (c .before .before .args .n) (omega arith) in
+    record { is = omega arith; most = omega arith }))

@@ -1,6 +1,6 @@
 -- `put_field` meets its contract: two writes one after another. Assumes nothing.
-use Rattle.report.proofs.Laws.{put-then}
 use borrow.Author.Needs.{needs}
+use Rattle.report.proofs.Writes.{put-then}
 use Rattle.report.proofs.put_field.Statement.{statement}
 use Rattle.report.proofs.put_field.Tie as tie
 

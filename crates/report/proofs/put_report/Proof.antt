@@ -1,9 +1,9 @@
 -- `put_report` meets its contract: two writes one after another. Assumes nothing.
+use native.Mathlib.Omega.{arith}
+use borrow.Author.Needs.{needs}
 use lib.ListN.{length-append}
 use Rattle.rules.specs.Report.{reportOf}
-use Rattle.report.proofs.Laws.{put-then}
-use borrow.Author.Needs.{needs}
-use native.Mathlib.Omega.{arith}
+use Rattle.report.proofs.Writes.{put-then}
 use Rattle.report.proofs.put_report.Statement.{statement}
 use Rattle.report.proofs.put_report.Tie as tie
 

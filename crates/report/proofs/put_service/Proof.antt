@@ -1,11 +1,11 @@
 -- `put_service` meets its contract: either name, by the test. Assumes nothing.
 use mathlib.Core.Path.{refl, sym, ap}
+use native.Mathlib.Omega.{arith}
+use borrow.Author.Needs.{needs}
 use lib.ListN.{length}
 use Rattle.rules.specs.Text.{text}
-use Rattle.report.proofs.Laws.{put-as}
+use Rattle.report.proofs.Writes.{put-as}
 use Rattle.report.proofs.Sizes.{water, sewerage}
-use borrow.Author.Needs.{needs}
-use native.Mathlib.Omega.{arith}
 use Rattle.report.proofs.put_service.Statement.{statement}
 use Rattle.report.proofs.put_service.Tie as tie
 

@@ -2,13 +2,13 @@
 use mathlib.Core.Path.{_≡_, refl, sym, ap, _∙_}
 use Prim.Native.Nat.{_+_, _-_, _≤_}
 use native.Mathlib.Numerals.{add-one}
+use native.Mathlib.Omega.{arith}
+use borrow.Author.Needs.{needs}
 use lib.ListN.{length, take, getD}
 use lib.Seq.{take-suc, take-length}
 use denote.Ref.{now}
 use Rattle.report.specs.Written.{Put}
-use Rattle.report.proofs.Laws.{put-none, put-byte, put-then, put-as}
-use borrow.Author.Needs.{needs}
-use native.Mathlib.Omega.{arith}
+use Rattle.report.proofs.Writes.{put-none, put-byte, put-then, put-as}
 use Rattle.report.proofs.put_text.Statement.{statement}
 use Rattle.report.proofs.put_text.Tie as tie
 
@@ -30,7 +30,12 @@ put-text-spec =
     (λ c. search needs)
     (λ c. search needs)
     (λ c. search needs)
-    (λ c. let text = now (c .before .before .before .args .text) in let j = c .before .before .loop .j in (put-as (put-then (c .before .before .loop .inv .0) (put-byte _ (c .before .before .before .args .at + j) (getD text j 0) (omega arith))) (sym (rw add-one (take-suc text j 0 (omega arith)))) (omega arith), omega arith))
+    (λ c. let text = now (c .before .before .before .args .text) in
+    let j = c .before .before .loop .j in
+    let byte = put-byte _ (c .before .before .before .args .at + j) (getD text j 0) (omega arith) in
+    (put-as (put-then (c .before .before .loop .inv .0) byte) (sym (rw add-one (take-suc text j 0 (omega arith)))) (omega arith), omega arith))
     (λ c. search needs)
     (λ c. c .before .loop .inv .0 .long)
-    (λ c. let text = now (c .before .before .args .text) in let e : c .before .loop .j ≡ length text = omega arith in put-as (c .before .loop .inv .0) (ap (λ n. take n text) e ∙ take-length text) refl))
+    (λ c. let text = now (c .before .before .args .text) in
+    let e : c .before .loop .j ≡ length text = omega arith in
+    put-as (c .before .loop .inv .0) (ap (λ n. take n text) e ∙ take-length text) refl))

@@ -1,8 +1,8 @@
 -- `report_length` meets its contract: the heading and the blocks. Assumes nothing.
+use native.Mathlib.Omega.{arith}
+use borrow.Author.Needs.{needs}
 use lib.ListN.{take}
 use Rattle.report.proofs.Sizes.{report-size}
-use borrow.Author.Needs.{needs}
-use native.Mathlib.Omega.{arith}
 use Rattle.report.proofs.report_length.Statement.{statement}
 use Rattle.report.proofs.report_length.Tie as tie
 
@@ -13,4 +13,5 @@ report-length-spec =
     (λ c κs. search needs)
     (λ c κs. search needs)
     (λ c. search needs)
-    (λ c. let e = report-size (c .before .before .args .service) (c .before .before .args .year) (take (c .before .before .args .count) (c .before .before .args .rows)) in record { is = omega arith; most = omega arith }))
+    (λ c. let e = report-size (c .before .before .args .service) (c .before .before .args .year) (take (c .before .before .args .count) (c .before .before .args .rows)) in
+    record { is = omega arith; most = omega arith }))

@@ -1,9 +1,9 @@
 -- `service_length` meets its contract: either name, by the test. Assumes nothing.
 use mathlib.Core.Path.{ap}
+use native.Mathlib.Omega.{arith}
 use lib.ListN.{length}
 use Rattle.rules.specs.Text.{text}
 use Rattle.report.proofs.Sizes.{water, sewerage}
-use native.Mathlib.Omega.{arith}
 use Rattle.report.proofs.service_length.Statement.{statement}
 use Rattle.report.proofs.service_length.Tie as tie
 
@@ -12,5 +12,7 @@ unfolding text
 service-length-spec =
     tie.close
     (tie.spec
-    (λ c. let e = ap length (water (c .before .args .service) (c .if1 .taken)) in record { is = omega arith; most = omega arith })
-    (λ c. let e = ap length (sewerage (c .before .args .service) (c .if1 .left)) in record { is = omega arith; most = omega arith }))
+    (λ c. let e = ap length (water (c .before .args .service) (c .if1 .taken)) in
+    record { is = omega arith; most = omega arith })
+    (λ c. let e = ap length (sewerage (c .before .args .service) (c .if1 .left)) in
+    record { is = omega arith; most = omega arith }))

@@ -1,11 +1,11 @@
 -- `write_refusal` meets its contract: a number has at most 20 digits, so the line fits. Assumes nothing.
+use native.Mathlib.Omega.{arith}
+use borrow.Author.Needs.{needs}
 use lib.ListN.{length-append}
 use Rattle.rules.specs.Text.{text}
 use Rattle.rules.specs.Report.{field, refused}
 use Rattle.report.specs.Written.{single}
-use Rattle.report.proofs.Laws.{length-most}
-use borrow.Author.Needs.{needs}
-use native.Mathlib.Omega.{arith}
+use Rattle.report.proofs.Decimal.{length-most}
 use Rattle.report.proofs.write_refusal.Statement.{statement}
 use Rattle.report.proofs.write_refusal.Tie as tie
 

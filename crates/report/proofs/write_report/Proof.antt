@@ -1,7 +1,7 @@
 -- `write_report` meets its contract: too short a space, or the whole text at its front. Assumes nothing.
-use Rattle.report.proofs.Laws.{too-short, all-written}
-use borrow.Author.Needs.{needs}
 use native.Mathlib.Omega.{arith}
+use borrow.Author.Needs.{needs}
+use Rattle.report.proofs.Writes.{too-short, all-written}
 use Rattle.report.proofs.write_report.Statement.{statement}
 use Rattle.report.proofs.write_report.Tie as tie
 
