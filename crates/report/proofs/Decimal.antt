@@ -48,7 +48,7 @@ length-one n h = ap length (decimal-one n h)
 pub length-more : (n : ℕ) → 10 ≤ n → length (decimal n) ≡ length (decimal (n / 10)) + 1
 length-more n h = ap length (decimal-more n h) ∙ length-append (decimal (n / 10)) _
 
--- a number below 10 ^ (k + 1) has at decimal-most k + 1 digits
+-- a number below 10 ^ (k + 1) has at most k + 1 digits
 decimal-most : (k n : ℕ) → n < 10 ^ suc k → length (decimal n) ≤ suc k
 decimal-most zero n h = omega (arith, length-one n h)
 decimal-most (suc k) n h =
