@@ -13,5 +13,6 @@ heading-length-spec =
     (λ c. search needs)
     (λ c κs. search needs)
     (λ c. search needs)
-    (λ c. let e = heading-size (c .before .before .args .service) (c .before .before .args .year) in
+    (λ c. let a = c .before .before .args in
+    let e = heading-size (a .service) (a .year) in
     record { is = omega arith; most = omega arith }))

@@ -13,5 +13,6 @@ report-length-spec =
     (λ c κs. search needs)
     (λ c κs. search needs)
     (λ c. search needs)
-    (λ c. let e = report-size (c .before .before .args .service) (c .before .before .args .year) (take (c .before .before .args .count) (c .before .before .args .rows)) in
+    (λ c. let a = c .before .before .args in
+    let e = report-size (a .service) (a .year) (take (a .count) (a .rows)) in
     record { is = omega arith; most = omega arith }))
