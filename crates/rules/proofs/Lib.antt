@@ -9,3 +9,4 @@ pub mod InForce
 pub mod Kept
 pub mod Examples
 pub mod Sentences
+pub mod Services

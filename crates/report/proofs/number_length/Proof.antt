@@ -1,0 +1,30 @@
+-- `number_length` meets its contract. The loop's invariant: the digits counted and those of what is left are those of n and one more. Assumes nothing.
+use mathlib.Core.Path.{_≡_}
+use Prim.Native.Nat.{_+_, _≤_}
+use native.Mathlib.Omega.{arith}
+use borrow.Author.Needs.{needs}
+use lib.ListN.{length}
+use Rattle.rules.specs.Text.{decimal}
+use Rattle.report.proofs.Decimal.{length-one, length-more, length-most}
+use Rattle.report.proofs.number_length.Statement.{statement}
+use Rattle.report.proofs.number_length.Tie as tie
+
+abbrev Inv-loop : tie.InvT-loop
+Inv-loop n left₀ count₀ left count = (count + length (decimal left) ≡ 1 + length (decimal n)) × (count + left ≤ 1 + n)
+
+abbrev μ-loop : tie.MeasureT-loop
+μ-loop n left₀ count₀ left count = left
+
+pub number-length-spec : {M : Type 1} → statement M
+number-length-spec =
+    tie.close
+    (tie.spec
+    Inv-loop
+    μ-loop
+    (λ c. search needs)
+    (λ c. search needs)
+    (λ c. search needs)
+    (λ c. omega (arith, length-more (c .before .loop .left) (c .loop-test .taken)))
+    (λ c. let one = length-one (c .before .loop .left) (c .loop-test .left) in
+    let most = length-most (c .before .before .args .n) (omega arith) in
+    record { is = omega arith; most = omega arith }))

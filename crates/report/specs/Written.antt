@@ -1,0 +1,22 @@
+-- What a writer leaves in the space that it was lent, and what a length says of a text.
+use mathlib.Core.Path.{_≡_}
+use mathlib.Core.List.{List, _++_}
+use Prim.Native.Nat.{ℕ, _+_, _≤_}
+use lib.ListN.{length, take, drop}
+use Rattle.rules.specs.Text.{text, decimal}
+
+-- `text` was written from `at` up to `end`, and nothing else changed. (`long` follows from the others; a caller goes on by it.)
+pub record Put (entry : List ℕ) (at : ℕ) (text exit : List ℕ) (end : ℕ) : Type 0 where
+  pub room : end ≤ length entry
+  pub ends : end ≡ at + length text
+  pub long : length exit ≡ length entry
+  pub written : exit ≡ take at entry ++ text ++ drop end entry
+
+-- n is the length of a text, which is at most `limit`
+pub record Long (text : List ℕ) (limit n : ℕ) : Type 0 where
+  pub is : n ≡ length text
+  pub most : n ≤ limit
+
+-- a line that has a label, a number and no more
+unfoldable pub single : List ℕ → ℕ → List ℕ
+single label n = label ++ decimal n ++ text ",,\n"
