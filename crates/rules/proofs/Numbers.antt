@@ -1,11 +1,11 @@
 -- No number of a breach is over 14, and no report is under 52 bytes, so the report service's one number tells a length from a refusal. Assumes nothing.
 use Prim.Native.Nat.{ℕ, zero, suc, _+_, _-_, _*_, _≤_, _<_}
 use mathlib.Core.Bool.{Bool, true, false, _&&_, _||_, not}
-use mathlib.Core.Path.{_≡_, refl}
+use mathlib.Core.Path.{_≡_, refl, ap}
 use mathlib.Core.Logic.{_⊎_, inl, inr}
 use mathlib.Core.List.{List, [], _∷_, _++_}
 use native.Mathlib.Omega.{arith}
-use lib.ListN.{length}
+use lib.ListN.{length, drop, length-append}
 use lib.Dec.{leb, ltb, eqb}
 use borrow.Author.Tests.{ltb-false}
 use Rattle.rules.specs.declared.Header.{Header}
@@ -22,7 +22,7 @@ use Rattle.rules.specs.Settlement.{providersOf}
 use Rattle.rules.specs.File.{Meter, Point, File, meterHead, pointHead, fileHeader, bandsAt, afterBand, afterBands, afterTransfer, afterTransfers, afterCondition, afterConditions, afterRead, readsFrom, afterMeter, transfersFrom, afterPoint, afterPoints, decode}
 use Rattle.rules.specs.Refusal.{when, headerOutside, bandOutside, pointOutside, transferOutside, conditionOutside, meterOutside, readOutside, headerRule, bandRule, pointRule, transferRule, conditionRule, meterRule, readRule, bandNumbers, transferNumbers, conditionNumbers, readNumbers, meterNumbers, pointNumbers, fileNumbers, paddingNumber, firstOr, fileRefusal, refusal}
 use Rattle.rules.specs.Report.{report}
-use Rattle.rules.specs.Services.{roomNumber, reportNumber, reportAnswer}
+use Rattle.rules.specs.Services.{written, roomNumber, reportNumber, reportAnswer, reportAfter}
 use Rattle.rules.proofs.Sentences.{no-report-under-52}
 
 -- at most the last number of the table that the report service gives
@@ -198,10 +198,11 @@ module _ (file : List ℕ) (room : ℕ) where
       go (suc n) e = inl (omega arith, omega (arith, e, number-low))
       go zero e = let fits = none-refused (refusal file) room _ e in inr (no-report-under-52 file (fits .0), fits .1)
 
--- an answer over 14 is a length that the room holds
-pub length-within : (file : List ℕ) (room answer : ℕ) → answer ≡ reportAnswer file room → 14 < answer → answer ≤ room
-length-within file room answer e h = go (told-apart file room)
+-- an answer over 14 is a length, and so many bytes are there afterwards
+pub length-within : (file space exit : List ℕ) (answer : ℕ) → answer ≡ reportAnswer file (length space) → exit ≡ reportAfter file space → 14 < answer → answer ≤ length exit
+unfolding reportAnswer reportAfter firstOr written
+length-within file space exit answer e f h = go (reportNumber file (length space)) refl e f
   where
-    go : ((1 ≤ reportAnswer file room) × (reportAnswer file room ≤ 14)) ⊎ ((52 ≤ reportAnswer file room) × (reportAnswer file room ≤ room)) → answer ≤ room
-    go (inl low) = absurd (omega (arith, e, low .1))
-    go (inr within) = omega (arith, e, within .1)
+    go : (n : ℕ) → reportNumber file (length space) ≡ n → answer ≡ firstOr (n ∷ []) (length (report (decode file))) → exit ≡ written n (report (decode file)) space → answer ≤ length exit
+    go zero z a x = omega (arith, a, ap length x, length-append (report (decode file)) (drop (length (report (decode file))) space))
+    go (suc n) z a x = absurd (omega (arith, h, a, z, number-low file (length space)))
