@@ -52,12 +52,12 @@ fn row_found(place: usize) -> Row
     }
 }
 
-fn table_found() -> [Row; 80]
+fn table_found() -> [Row; ENTRIES]
     ensures { λ r. ⌜ length r ≡ 80 ⌝ }
 {
     let row = row_found(0);
-    let mut table = [row; 80];
-    for i in 0..80 {
+    let mut table = [row; ENTRIES];
+    for i in 0..ENTRIES {
         let found = row_found(i);
         table[i] = found;
     }
@@ -85,7 +85,7 @@ fn alike(a: Row, b: Row) -> u64
 }
 
 // How many of the entries lent are as found, from a place on.
-fn rows_kept(table: [Row; 80], from: usize, lent: usize) -> u64
+fn rows_kept(table: [Row; ENTRIES], from: usize, lent: usize) -> u64
     requires { ⌜ lent ≤ 80 ⌝ }
 {
     let mut kept: u64 = 0;
@@ -99,7 +99,7 @@ fn rows_kept(table: [Row; 80], from: usize, lent: usize) -> u64
     kept
 }
 
-fn print_table(answer: RowsAnswer, table: [Row; 80], lent: usize)
+fn print_table(answer: RowsAnswer, table: [Row; ENTRIES], lent: usize)
     requires { ⌜ lent ≤ 80 ⌝ }
 {
     let count = answer.count;
@@ -108,7 +108,7 @@ fn print_table(answer: RowsAnswer, table: [Row; 80], lent: usize)
     print_number(count as u64);
     print_number(rows_kept(table, count, lent));
     io::write_all(1, b"\n");
-    for i in 0..80 {
+    for i in 0..ENTRIES {
         if i < count {
             let row = table[i];
             print_row(row);
