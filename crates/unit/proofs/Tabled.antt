@@ -29,18 +29,17 @@ module _ (b : List ℕ) (table : List Row) where
   answered n count is k = sym (ap₂ (λ (n : ℕ) (count : ℕ). record { number = n; count = count }) is (ap (λ n. only (eqb n 0) (length answer)) is ∙ k))
 
   -- A REFUSAL, whichever
-  none : (n : ℕ) → rowsNumber b entries ≡ n → (n ≡ 0 → ⊥) → {r : RowsAnswer} → (r .number ≡ n) × (r .count ≡ 0) → (r ≡ rowsAnswer b entries) × (table ≡ rowsAfter b table)
+  none : (n : ℕ) → rowsNumber b entries ≡ n → (n ≡ 0 → ⊥) → (_≡_ {A = RowsAnswer} (record { number = n; count = 0 }) (rowsAnswer b entries)) × (table ≡ rowsAfter b table)
   unfolding rowsAfter written only
-  none zero is some e = absurd (some refl)
-  none (suc n) is some e =
-      (ap₂ (λ (n : ℕ) (count : ℕ). record { number = n; count = count }) (e .0) (e .1) ∙ answered (suc n) 0 is (simp (ne-eqb (suc n) 0 some)), sym (rw (is, written)))
+  none zero is some = absurd (some refl)
+  none (suc n) is some = (answered (suc n) 0 is (simp (ne-eqb (suc n) 0 some)), sym (rw (is, written)))
 
   refused-number : (n : ℕ) → n ≡ refusal b → (n ≡ 0 → ⊥) → rowsNumber b entries ≡ n
   unfolding rowsNumber firstOr
   refused-number zero e some = absurd (some refl)
   refused-number (suc n) e some = rw (sym e, firstOr)
 
-  pub refused : (n : ℕ) → n ≡ refusal b → (n ≡ 0 → ⊥) → {r : RowsAnswer} → (r .number ≡ n) × (r .count ≡ 0) → (r ≡ rowsAnswer b entries) × (table ≡ rowsAfter b table)
+  pub refused : (n : ℕ) → n ≡ refusal b → (n ≡ 0 → ⊥) → (_≡_ {A = RowsAnswer} (record { number = n; count = 0 }) (rowsAnswer b entries)) × (table ≡ rowsAfter b table)
   refused n e some = none n (refused-number n e some) some
 
   module _ {list : List ℕ} {count : ℕ} (e : refusal b ≡ 0) (of : ProvidersOf b list count) where
@@ -50,7 +49,7 @@ module _ (b : List ℕ) (table : List Row) where
     sized = length-map (providersOf (decode b .tariff) (decode b .points)) (λ p. rowAnd (decode b .tariff) (clearRow p) (decode b .points)) ∙ many b (accepted-good b e) of
 
     -- TOO FEW ENTRIES
-    pub short : entries < count → {r : RowsAnswer} → (r .number ≡ 14) × (r .count ≡ 0) → (r ≡ rowsAnswer b entries) × (table ≡ rowsAfter b table)
+    pub short : entries < count → (_≡_ {A = RowsAnswer} (record { number = 14; count = 0 }) (rowsAnswer b entries)) × (table ≡ rowsAfter b table)
     unfolding rowsNumber firstOr roomNumber
     short h =
         let few : entries < length answer = omega (arith, sized) in

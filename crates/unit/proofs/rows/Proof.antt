@@ -14,28 +14,22 @@ use Rattle.unit.proofs.rows.Proof.Tie as tie
 judge-requires : tie.Need-judge-requires
 judge-requires c κs = search needs
 
-no-rows-requires : tie.Need-no-rows-requires
-no-rows-requires c κs = search needs
-
 returns : tie.Need-returns
 returns c =
     let s = c .before .before .before .before in
-    refused (now (s .args .file)) (s .args .table .now) _ (c .before .before .judge .ensures .number) (c .before .if1 .taken) (c .no-rows .ensures)
-
-no-rows-requires-2 : tie.Need-no-rows-requires-2
-no-rows-requires-2 c κs = search needs
+    refused (now (s .args .file)) (s .args .table .now) _ (c .before .before .judge .ensures .number) (c .if1 .taken)
 
 returns-2 : tie.Need-returns-2
 returns-2 c =
     let s = c .before .before .before .before .before .before .before in
     let judged = c .before .before .before .before .before .judge .ensures in
-    let accepted = sym (judged .number) ∙ c .before .before .before .before .if1 .left in
-    short (now (s .args .file)) (s .args .table .now) accepted (judged-providers (now (s .args .file)) judged accepted) (c .before .if2 .taken) (c .no-rows2 .ensures)
+    let accepted = sym (judged .number) ∙ c .before .before .before .if1 .left in
+    short (now (s .args .file)) (s .args .table .now) accepted (judged-providers (now (s .args .file)) judged accepted) (c .if2 .taken)
 
 rows-into-requires : tie.Need-rows-into-requires
 rows-into-requires c κs =
-    let s = c .before .before .before .before .before .before .before in
-    let judged = c .before .before .before .before .before .judge .ensures in
+    let s = c .before .before .before .before .before .before .before .before in
+    let judged = c .before .before .before .before .before .before .judge .ensures in
     let accepted = sym (judged .number) ∙ c .before .before .before .before .if1 .left in
     (accepted-file (now (s .args .file)) accepted, (judged-providers (now (s .args .file)) judged accepted, omega (arith, c .before .if2 .left)))
 
@@ -44,10 +38,10 @@ same-length c = search needs
 
 returns-3 : tie.Need-returns-3
 returns-3 c =
-    let s = c .before .before .before .before .before .before .before .before .before in
-    let judged = c .before .before .before .before .before .before .before .judge .ensures in
+    let s = c .before .before .before .before .before .before .before .before .before .before in
+    let judged = c .before .before .before .before .before .before .before .before .judge .ensures in
     let accepted = sym (judged .number) ∙ c .before .before .before .before .before .before .if1 .left in
     enough (now (s .args .file)) (s .args .table .now) accepted (judged-providers (now (s .args .file)) judged accepted) (omega (arith, c .before .before .before .if2 .left)) (c .before .rows-into .ensures .1)
 
 pub rows-spec : {M : Type 1} → statement M
-rows-spec = tie.close (tie.spec judge-requires no-rows-requires returns no-rows-requires-2 returns-2 rows-into-requires same-length returns-3)
+rows-spec = tie.close (tie.spec judge-requires returns returns-2 rows-into-requires same-length returns-3)
