@@ -1,9 +1,15 @@
-// Prints the rows, the statements and the report of each file of a batch. A line `rows` has the number, the count and how many of the 64 entries
-// lent are past the answer and as they were found, clear; then a line for each row, and one for each statement up to the first that is refused.
-// A line `report` has the answer and how many of the bytes lent are past it and as they were found; then the report, where one was written.
-ghost use Prim.Native.Nat.{_≤_};
+// Prints the rows, the statements and the report of each file of a batch, as `reference cases` does. A line `rows` has the number, the count and
+// how many of the entries lent are past the answer and as they were found; then a line for each row, and one for each statement up to the first
+// that is refused. A line `report` has the answer and how many of the bytes lent are past it and as they were found; then the report, where one
+// was written. At most 80 entries and 65,536 bytes are lent, whatever the batch asks.
+ghost use mathlib.Core.Path.{_≡_};
+ghost use Prim.Native.Nat.{_≤_, _<_};
+ghost use lib.ListN.{length};
 use rules::Centipence;
+use rules::Days;
+use rules::Litres;
 use rules::Row;
+use rules::RowsAnswer;
 use rules::StatementAnswer;
 
 fn print_number(n: u64) {
@@ -30,51 +36,92 @@ fn print_row(row: Row) {
     print_charges(charges);
 }
 
-// Whether a row is clear: of no provider, with nothing.
-fn is_clear(row: Row) -> bool {
-    let days = row.days;
-    let litres = row.litres;
-    let c = row.charges;
-    (row.provider == 0)
-        & (days.0 == 0)
-        & (litres.0 == 0)
-        & (c[0].0 == 0)
-        & (c[1].0 == 0)
-        & (c[2].0 == 0)
-        & (c[3].0 == 0)
+// The most entries that are lent: more than any answer has rows.
+const ENTRIES: usize = 80;
+
+// What an entry of the table holds before the call: no row of an answer, and no two alike.
+fn row_found(place: usize) -> Row
+    requires { ⌜ place < 80 ⌝ }
+{
+    let n = place as u64;
+    Row {
+        provider: 4294967296 + n,
+        days: Days(18446744073709551615),
+        litres: Litres(18446744073709551615 - n),
+        charges: [Centipence(1), Centipence(2), Centipence(3), Centipence(4)],
+    }
 }
 
-// How many rows from a place on are clear.
-fn clear_from(rows: [Row; 64], from: usize) -> u64 {
+fn table_found() -> [Row; ENTRIES]
+    ensures { λ r. ⌜ length r ≡ 80 ⌝ }
+{
+    let row = row_found(0);
+    let mut table = [row; ENTRIES];
+    for i in 0..ENTRIES {
+        let found = row_found(i);
+        table[i] = found;
+    }
+    table
+}
+
+// One where two rows are alike, and else none.
+fn alike(a: Row, b: Row) -> u64
+    ensures { λ r. ⌜ r ≤ 1 ⌝ }
+{
+    let days = a.days;
+    let other_days = b.days;
+    let litres = a.litres;
+    let other_litres = b.litres;
+    let c = a.charges;
+    let d = b.charges;
+    let same = (a.provider == b.provider)
+        & (days.0 == other_days.0)
+        & (litres.0 == other_litres.0)
+        & (c[0].0 == d[0].0)
+        & (c[1].0 == d[1].0)
+        & (c[2].0 == d[2].0)
+        & (c[3].0 == d[3].0);
+    if same { 1 } else { 0 }
+}
+
+// How many of the entries lent are as found, from a place on.
+fn rows_kept(table: [Row; ENTRIES], from: usize, lent: usize) -> u64
+    requires { ⌜ lent ≤ 80 ⌝ }
+{
     let mut kept: u64 = 0;
-    for i in 0..64 {
-        if i >= from {
-            let row = rows[i];
-            if is_clear(row) {
-                if kept < 64 {
-                    kept += 1;
-                }
-            }
-        }
+    let mut i = from;
+    while i < lent {
+        let row = table[i];
+        let found = row_found(i);
+        kept += alike(row, found);
+        i += 1;
     }
     kept
 }
 
-fn print_rows(file: &[u8]) {
-    let answer = unit::rows_by_value(file);
-    let rows = answer.rows;
+fn print_table(answer: RowsAnswer, table: [Row; ENTRIES], lent: usize)
+    requires { ⌜ lent ≤ 80 ⌝ }
+{
     let count = answer.count;
     io::write_all(1, b"rows");
     print_number(answer.number);
     print_number(count as u64);
-    print_number(clear_from(rows, count));
+    print_number(rows_kept(table, count, lent));
     io::write_all(1, b"\n");
-    for i in 0..64 {
+    for i in 0..ENTRIES {
         if i < count {
-            let row = rows[i];
+            let row = table[i];
             print_row(row);
         }
     }
+}
+
+// The one function here that has the table by reference.
+fn print_rows(file: &[u8], entries: usize) {
+    let lent = batch::least(entries, ENTRIES);
+    let mut table = table_found();
+    let answer = unit::rows(file, &mut table[..lent]);
+    print_table(answer, table, lent);
 }
 
 fn print_statement(place: u64, answer: StatementAnswer) {
@@ -169,7 +216,8 @@ fn one_case(space: &mut [u8], lent: &mut [u8], number: u64) -> bool {
     io::write_all(1, b"case");
     print_number(number);
     io::write_all(1, b"\n");
-    print_rows(file);
+    let entries = case.entries;
+    print_rows(file, entries);
     print_statements(file);
     let bytes = batch::least(case.bytes, lent.len());
     print_report(file, &mut lent[..bytes]);

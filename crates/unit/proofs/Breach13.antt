@@ -1,4 +1,4 @@
--- Breach 13 after breaches 1 to 12. Assumes nothing.
+-- Breach 13 after breaches 1 to 12, and the list of providers that the judge hands on. Assumes nothing.
 use Prim.Native.Nat.{ℕ, zero, suc, _≤_, _<_}
 use mathlib.Core.Bool.{Bool, true, false}
 use mathlib.Core.Path.{_≡_, refl, ap, sym, _∙_}
@@ -12,6 +12,7 @@ use Rattle.rules.specs.Refusal.{when, firstOr, fileRefusal, refusal}
 use Rattle.rules.specs.Settlement.{providersOf}
 use Rattle.providers.specs.declared.Listed.{Listed}
 use Rattle.providers.specs.Listed.{InArray, Stands}
+use Rattle.figures.specs.Figures.{ProvidersOf}
 use Rattle.unit.specs.declared.Judged.{Judged}
 use Rattle.unit.specs.Judged.{JudgedBy}
 
@@ -44,3 +45,7 @@ module _ (b : List ℕ) where
         let list : take (l .count) (l .list) ≡ all = rw o at (s .1) in
         let few : length all ≤ 64 = omega (arith, ap length list, length-take-le (l .count) (l .list) (omega (arith, s .0 .few, s .0 .long)), s .0 .few) in
         record { number = sym (rw (sym e, firstOr, le-ltb 64 (length all) few)); array = s .0; providers = λ z. list }
+
+  -- the judge's list is the file's providers
+  pub judged-providers : {j : Judged} → JudgedBy b j → refusal b ≡ 0 → ProvidersOf b (j .providers .list) (j .providers .count)
+  judged-providers j e = record { few = j .array .few; long = j .array .long; is = j .providers e }

@@ -1,4 +1,6 @@
 pub mod Breach13
 pub mod Places
-pub mod ByValue
+pub mod Tabled
 pub mod Reports
+pub mod RowsKinds
+pub mod RowsReads

@@ -1,86 +1,33 @@
--- `print_rows` meets its contract. Assumes nothing.
-use Prim.Native.Nat.{_≤_, _-_}
+-- `print_rows` meets its contract: no more entries are lent than there are. Assumes nothing.
+mod Lts
+mod Tie
+use mathlib.Core.Path.{sym}
+use native.Mathlib.Omega.{arith}
+use lib.Seq.{length-take-le}
 use borrow.Author.Needs.{needs}
 use Rattle.cases_main.proofs.print_rows.Statement.{statement}
-use Rattle.cases_main.proofs.print_rows.Tie as tie
+use Rattle.cases_main.proofs.print_rows.Proof.Tie as tie
 
-abbrev Inv-loop : tie.InvT-loop
-Inv-loop file rows count i₀ i = i ≤ 64
+least-requires : tie.Need-least-requires
+least-requires c κs = search needs
 
-abbrev μ-loop : tie.MeasureT-loop
-μ-loop file rows count i₀ i = 64 - i
+table-found-requires : tie.Need-table-found-requires
+table-found-requires c κs = search needs
 
-rows-by-value-requires : tie.Need-rows-by-value-requires Inv-loop μ-loop
-rows-by-value-requires c κs = search needs
+array-borrow-prefix-table : tie.Need-array-borrow-prefix-table
+array-borrow-prefix-table c = search needs
 
-slice-aggregate-write-all : tie.Need-slice-aggregate-write-all Inv-loop μ-loop
-slice-aggregate-write-all c = search needs
+slice-aggregate-rows : tie.Need-slice-aggregate-rows
+slice-aggregate-rows c = sym (length-take-le _ _ (omega (arith, c .before .before .least .ensures, c .before .table-found .ensures)))
 
-write-all-requires : tie.Need-write-all-requires Inv-loop μ-loop
-write-all-requires c κs = search needs
+rows-requires : tie.Need-rows-requires
+rows-requires c κs = search needs
 
-print-number-requires : tie.Need-print-number-requires Inv-loop μ-loop
-print-number-requires c κs = search needs
+print-table-requires : tie.Need-print-table-requires
+print-table-requires c κs = search needs
 
-print-number-requires-2 : tie.Need-print-number-requires-2 Inv-loop μ-loop
-print-number-requires-2 c κs = search needs
-
-clear-from-requires : tie.Need-clear-from-requires Inv-loop μ-loop
-clear-from-requires c κs = search needs
-
-print-number-requires-3 : tie.Need-print-number-requires-3 Inv-loop μ-loop
-print-number-requires-3 c κs = search needs
-
-slice-aggregate-write-all-2 : tie.Need-slice-aggregate-write-all-2 Inv-loop μ-loop
-slice-aggregate-write-all-2 c = search needs
-
-write-all-requires-2 : tie.Need-write-all-requires-2 Inv-loop μ-loop
-write-all-requires-2 c κs = search needs
-
-loop-holds : tie.Need-loop-holds Inv-loop μ-loop
-loop-holds c = search needs
-
-mul-row : tie.Need-mul-row Inv-loop μ-loop
-mul-row c = search needs
-
-array-copy-out-row : tie.Need-array-copy-out-row Inv-loop μ-loop
-array-copy-out-row c = search needs
-
-print-row-requires : tie.Need-print-row-requires Inv-loop μ-loop
-print-row-requires c κs = search needs
-
-add-i : tie.Need-add-i Inv-loop μ-loop
-add-i c = search needs
-
-loop-less : tie.Need-loop-less Inv-loop μ-loop
-loop-less c = search needs
-
-loop-again : tie.Need-loop-again Inv-loop μ-loop
-loop-again c = search needs
-
-returns : tie.Need-returns Inv-loop μ-loop
+returns : tie.Need-returns
 returns c = search needs
 
 pub print-rows-spec : {M : Type 1} → statement M
-print-rows-spec =
-    tie.close
-    (tie.spec
-    Inv-loop
-    μ-loop
-    rows-by-value-requires
-    slice-aggregate-write-all
-    write-all-requires
-    print-number-requires
-    print-number-requires-2
-    clear-from-requires
-    print-number-requires-3
-    slice-aggregate-write-all-2
-    write-all-requires-2
-    loop-holds
-    mul-row
-    array-copy-out-row
-    print-row-requires
-    add-i
-    loop-less
-    loop-again
-    returns)
+print-rows-spec = tie.close (tie.spec least-requires table-found-requires array-borrow-prefix-table slice-aggregate-rows rows-requires print-table-requires returns)

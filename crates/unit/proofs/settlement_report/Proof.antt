@@ -2,7 +2,7 @@
 use mathlib.Core.Path.{sym, _∙_}
 use denote.Ref.{now}
 use Rattle.rules.proofs.Services.{accepted-answer, accepted-after}
-use Rattle.unit.proofs.ByValue.{judged-providers}
+use Rattle.unit.proofs.Breach13.{judged-providers}
 use Rattle.unit.proofs.Reports.{refused-answer, refused-after}
 use borrow.Author.Needs.{needs}
 use Rattle.unit.proofs.settlement_report.Statement.{statement}

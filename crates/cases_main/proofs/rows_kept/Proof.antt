@@ -1,16 +1,14 @@
--- `clear_from` meets its contract. Assumes nothing.
+-- `rows_kept` meets its contract. Assumes nothing.
 use Prim.Native.Nat.{_≤_, _-_}
-use mathlib.Core.Path.{_≡_}
-use lib.ListN.{length}
 use borrow.Author.Needs.{needs}
-use Rattle.cases_main.proofs.clear_from.Statement.{statement}
-use Rattle.cases_main.proofs.clear_from.Tie as tie
+use Rattle.cases_main.proofs.rows_kept.Statement.{statement}
+use Rattle.cases_main.proofs.rows_kept.Tie as tie
 
 abbrev Inv-loop : tie.InvT-loop
-Inv-loop from rows kept₀ i₀ kept i = i ≤ 64
+Inv-loop from lent table kept₀ i₀ kept i = kept ≤ i
 
 abbrev μ-loop : tie.MeasureT-loop
-μ-loop from rows kept₀ i₀ kept i = 64 - i
+μ-loop from lent table kept₀ i₀ kept i = lent - i
 
 loop-holds : tie.Need-loop-holds Inv-loop μ-loop
 loop-holds c = search needs
@@ -21,8 +19,11 @@ mul-row c = search needs
 array-copy-out-row : tie.Need-array-copy-out-row Inv-loop μ-loop
 array-copy-out-row c = search needs
 
-is-clear-requires : tie.Need-is-clear-requires Inv-loop μ-loop
-is-clear-requires c κs = search needs
+row-found-requires : tie.Need-row-found-requires Inv-loop μ-loop
+row-found-requires c κs = search needs
+
+alike-requires : tie.Need-alike-requires Inv-loop μ-loop
+alike-requires c κs = search needs
 
 add-kept : tie.Need-add-kept Inv-loop μ-loop
 add-kept c = search needs
@@ -39,8 +40,8 @@ loop-again c = search needs
 returns : tie.Need-returns Inv-loop μ-loop
 returns c = search needs
 
-pub clear-from-spec : {M : Type 1} → statement M
-clear-from-spec =
+pub rows-kept-spec : {M : Type 1} → statement M
+rows-kept-spec =
     tie.close
     (tie.spec
     Inv-loop
@@ -48,7 +49,8 @@ clear-from-spec =
     loop-holds
     mul-row
     array-copy-out-row
-    is-clear-requires
+    row-found-requires
+    alike-requires
     add-kept
     add-i
     loop-less

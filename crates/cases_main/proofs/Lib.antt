@@ -1,0 +1,2 @@
+pub mod PrintRowsKinds
+pub mod PrintRowsReads
