@@ -71,9 +71,9 @@ pub record ConditionsLeft (before after : ConditionSheet → List ℕ) (start : 
       Latest (λ c. c .day) (conditionFigure s) (before s) (after s) start left (λ d. conditionFigure s (latest (λ c. c .day) (λ c. c) noCondition all d))
 
 -- no condition, which stands from day 0 on
-good-none : GoodCondition noCondition
+pub good-none : {c : Condition} → c ≡ noCondition → GoodCondition c
 unfolding noCondition
-good-none = record { day = lit< tt; discounts = zero-le; rateable = zero-le }
+good-none e = subst GoodCondition (sym e) (record { day = lit< tt; discounts = zero-le; rateable = zero-le })
 
 zero-day : noCondition .day ≡ 0
 unfolding noCondition
@@ -85,7 +85,7 @@ conditions-begin {l} {start} {none} {cs} e good = subst (λ c. ConditionsLeft l 
     begun : ConditionsLeft l l start cs (noCondition ∷ cs)
     begun =
         record {
-          good = (good-none, good);
+          good = (good-none refl, good);
           so-far = λ s. latest-begin _ _ noCondition cs zero-day (latest-of (λ c. c .day) (conditionFigure s) noCondition cs);
         }
 
