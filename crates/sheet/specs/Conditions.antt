@@ -7,7 +7,7 @@ use Rattle.rules.specs.declared.Condition.{Condition}
 use Rattle.rules.specs.Sums.{only}
 use Rattle.rules.specs.Lists.{latest}
 use Rattle.rules.specs.Charges.{noCondition, afterDiscounts}
-use Rattle.sheet.specs.Sheets.{Filled, Overwritten}
+use Rattle.sheet.specs.Sheets.{Filled, OverwrittenUntil}
 
 -- each day has the provider of the latest transfer on or before it, and 0 before the first
 abbrev pub ProvidersFilled : List ℕ → List ℕ → ℕ → List Transfer → Type 0
@@ -39,9 +39,9 @@ five vacant disconnected discounted property roads discountedSheet = discounted
 five vacant disconnected discounted property roads propertySheet = property
 five vacant disconnected discounted property roads roadsSheet = roads
 
--- a condition holds from its day on
-abbrev pub ConditionSet : (ConditionSheet → List ℕ) → (ConditionSheet → List ℕ) → ℕ → Condition → Type 0
-ConditionSet before after start c = (s : ConditionSheet) → Overwritten (before s) (after s) start (c .day) (conditionFigure s c)
+-- a condition holds from its day on, in the entries before `end`
+abbrev pub ConditionSet : (ConditionSheet → List ℕ) → (ConditionSheet → List ℕ) → ℕ → ℕ → Condition → Type 0
+ConditionSet before after start end c = (s : ConditionSheet) → OverwrittenUntil (before s) (after s) start (c .day) end (conditionFigure s c)
 
 -- each day has what its condition says: the latest on or before it
 abbrev pub ConditionsFilled : (ConditionSheet → List ℕ) → (ConditionSheet → List ℕ) → ℕ → List Condition → Type 0

@@ -1,4 +1,4 @@
--- `sheet::set_condition` meets its contract: each of the five sheets is overwritten from the day on. Assumes nothing.
+-- `sheet::set_condition` meets its contract: each of the five sheets is overwritten from the day on, before the end. Assumes nothing.
 use native.Mathlib.Omega.{arith}
 use native.Mathlib.Nat.{mul-le-mul}
 use Rattle.sheet.proofs.Records.{condition-set}
@@ -10,28 +10,28 @@ after-discounts-requires : tie.Need-after-discounts-requires
 after-discounts-requires c κs = search needs
 
 mul-drains : tie.Need-mul-drains
-mul-drains c = omega (arith, mul-le-mul (c .before .before .before .before .before .before .before .pre .rateable) (c .before .after-discounts .ensures .1))
+mul-drains c = omega (arith, mul-le-mul ((c .before .before .before .before .before .before .before .pre) .rateable) (c .before .after-discounts .ensures .1))
 
-set-from-requires : tie.Need-set-from-requires
-set-from-requires c κs = search needs
+set-until-requires : tie.Need-set-until-requires
+set-until-requires c κs = search needs
 
-set-from-requires-2 : tie.Need-set-from-requires-2
-set-from-requires-2 c κs = search needs
+set-until-requires-2 : tie.Need-set-until-requires-2
+set-until-requires-2 c κs = search needs
 
-set-from-requires-3 : tie.Need-set-from-requires-3
-set-from-requires-3 c κs = search needs
+set-until-requires-3 : tie.Need-set-until-requires-3
+set-until-requires-3 c κs = search needs
 
 where-flag-requires : tie.Need-where-flag-requires
 where-flag-requires c κs = search needs
 
-set-from-requires-4 : tie.Need-set-from-requires-4
-set-from-requires-4 c κs = search needs
+set-until-requires-4 : tie.Need-set-until-requires-4
+set-until-requires-4 c κs = search needs
 
 where-flag-requires-2 : tie.Need-where-flag-requires-2
 where-flag-requires-2 c κs = search needs
 
-set-from-requires-5 : tie.Need-set-from-requires-5
-set-from-requires-5 c κs = search needs
+set-until-requires-5 : tie.Need-set-until-requires-5
+set-until-requires-5 c κs = search needs
 
 same-length : tie.Need-same-length
 same-length c = search needs
@@ -49,7 +49,7 @@ same-length-5 : tie.Need-same-length-5
 same-length-5 c = search needs
 
 returns : tie.Need-returns
-returns c = condition-set _ (c .before .before .before .before .before .before .before .before .before .before .before .before .before .before .before .before .before .before .before .before .before .before .before .after-discounts .ensures) (c .before .before .before .before .before .before .before .before .where-flag .ensures) (c .before .before .before .where-flag2 .ensures) (c .before .before .before .before .before .before .before .before .before .before .before .before .before .before .before .before .before .before .before .before .set-from .ensures) (c .before .before .before .before .before .before .before .before .before .before .before .before .before .before .before .before .set-from2 .ensures) (c .before .before .before .before .before .before .before .before .before .before .before .before .set-from3 .ensures) (c .before .before .before .before .before .before .before .set-from4 .ensures) (c .before .before .set-from5 .ensures)
+returns c = condition-set _ (c .before .before .before .before .before .before .before .before .before .before .before .before .before .before .before .before .before .before .before .before .before .before .before .after-discounts .ensures) (c .before .before .before .before .before .before .before .before .where-flag .ensures) (c .before .before .before .where-flag2 .ensures) (c .before .before .before .before .before .before .before .before .before .before .before .before .before .before .before .before .before .before .before .before .set-until .ensures) (c .before .before .before .before .before .before .before .before .before .before .before .before .before .before .before .before .set-until2 .ensures) (c .before .before .before .before .before .before .before .before .before .before .before .before .set-until3 .ensures) (c .before .before .before .before .before .before .before .set-until4 .ensures) (c .before .before .set-until5 .ensures)
 
 pub set-condition-spec : {M : Type 1} → statement M
 set-condition-spec =
@@ -57,13 +57,13 @@ set-condition-spec =
     (tie.spec
     after-discounts-requires
     mul-drains
-    set-from-requires
-    set-from-requires-2
-    set-from-requires-3
+    set-until-requires
+    set-until-requires-2
+    set-until-requires-3
     where-flag-requires
-    set-from-requires-4
+    set-until-requires-4
     where-flag-requires-2
-    set-from-requires-5
+    set-until-requires-5
     same-length
     same-length-2
     same-length-3
