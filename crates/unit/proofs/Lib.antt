@@ -1,3 +1,4 @@
 pub mod Breach13
 pub mod Places
 pub mod ByValue
+pub mod Reports

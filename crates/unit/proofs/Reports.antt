@@ -1,0 +1,48 @@
+-- The report service's answer by the refusal of the file, and the report of an accepted file by its rows. Assumes nothing.
+use Prim.Native.Nat.{ℕ, zero, suc, _≤_}
+use mathlib.Core.Path.{_≡_, refl, sym, ap, ap₂, _∙_, subst}
+use mathlib.Core.List.{List, _++_}
+use lib.ListN.{length, take, drop}
+use lib.Seq.{take-at}
+use Rattle.rules.specs.declared.Header.{Header}
+use Rattle.rules.specs.declared.Row.{Row}
+use Rattle.rules.specs.File.{headerAt, decode}
+use Rattle.rules.specs.Refusal.{firstOr, refusal}
+use Rattle.rules.specs.Settlement.{rows, rowAnd, clearRow, providersOf}
+use Rattle.rules.specs.Report.{reportOf, report}
+use Rattle.rules.specs.Services.{written, reportNumber, reportAnswer, reportAfter}
+use Rattle.rules.specs.Fits.{Fits, AllFit}
+use Rattle.rules.proofs.Lists.{all-map}
+use Rattle.rules.proofs.Kept.{accepted-good}
+use Rattle.settle.proofs.Rows.{rows-fit}
+use Rattle.rows.specs.Rows.{blank, RowsOf}
+
+module _ (b : List ℕ) where
+  refused-number : (n room : ℕ) → n ≡ refusal b → (n ≡ 0 → ⊥) → reportNumber b room ≡ n
+  unfolding reportNumber firstOr
+  refused-number zero room e h = absurd (h refl)
+  refused-number (suc n) room e h = rw (sym e, firstOr)
+
+  pub refused-answer : (n room : ℕ) → n ≡ refusal b → (n ≡ 0 → ⊥) → n ≡ reportAnswer b room
+  unfolding reportAnswer firstOr
+  refused-answer zero room e h = absurd (h refl)
+  refused-answer (suc n) room e h = sym (rw (refused-number (suc n) room e h, firstOr))
+
+  pub refused-after : (n : ℕ) (space : List ℕ) → n ≡ refusal b → (n ≡ 0 → ⊥) → space ≡ reportAfter b space
+  unfolding reportAfter written
+  refused-after zero space e h = absurd (h refl)
+  refused-after (suc n) space e h = sym (rw (refused-number (suc n) (length space) e h, written))
+
+  module _ {count : ℕ} {t : List Row} (e : refusal b ≡ 0) (r : RowsOf b count t) where
+    -- the rows by value are the file's
+    first-rows : take count t ≡ rows (decode b)
+    unfolding written
+    first-rows = ap (take count) (r .is) ∙ take-at (rows (decode b)) (drop (length (rows (decode b))) blank) count (r .many)
+
+    pub rows-all-fit : AllFit (take count t)
+    unfolding rows
+    rows-all-fit = subst AllFit (sym first-rows) (all-map Fits (λ p. rowAnd (decode b .tariff) (clearRow p) (decode b .points)) (rows-fit b (accepted-good b e)) (providersOf (decode b .tariff) (decode b .points)))
+
+    pub report-is : {head : Header} → head ≡ headerAt b → reportOf (head .service) (head .year) (take count t) ≡ report (decode b)
+    unfolding report decode
+    report-is h = ap₂ (λ (head : Header) rows. reportOf (head .service) (head .year) rows) h first-rows
