@@ -2,7 +2,8 @@
 //!
 //!     bench time ROUNDS          each file of `inputs::all`: best and median
 //!     bench growth ROUNDS        the same of `inputs::growth`, without the second
-//!     bench once SERVICE FILE    one call, for callgrind
+//!     bench once SERVICE FILE [CALLS]
+//!                                one call or some, for callgrind and perf
 //!     bench files                the files: name, bytes, answer, what they are
 //!
 //! All services get the same file and the same space of 65,536 bytes. In each
@@ -97,7 +98,7 @@ fn line(name: &str, measured: &[Measured]) {
     println!("{name}{}", figures.collect::<String>());
 }
 
-fn once(service: &str, name: &str) {
+fn once(service: &str, name: &str, calls: usize) {
     let found = SERVICES.iter().find(|(known, _)| *known == service);
     let named = inputs::all().into_iter().map(|(known, _, file)| (known.to_string(), file));
     let grown = inputs::growth();
@@ -108,6 +109,9 @@ fn once(service: &str, name: &str) {
         exit(2);
     };
     let mut space = vec![0; 65_536];
+    for _ in 1..calls {
+        call(*service, &file, &mut space);
+    }
     println!("{}", call(*service, &file, &mut space));
 }
 
@@ -133,9 +137,10 @@ fn main() {
                 println!("{name}\t{}\t{}\t{words}", file.len(), agree(name, &file));
             }
         }
-        ["once", service, name] => once(service, name),
+        ["once", service, name] => once(service, name, 1),
+        ["once", service, name, calls] => once(service, name, calls.parse().expect("a number")),
         _ => {
-            eprintln!("usage: bench time ROUNDS | growth ROUNDS | files | once SERVICE FILE");
+            eprintln!("usage: bench time ROUNDS | growth ROUNDS | files | once SERVICE FILE [CALLS]");
             exit(2);
         }
     }
