@@ -2,6 +2,7 @@
 //! are measured.
 
 pub mod inputs;
+pub mod stack;
 
 /// A report service: the file and the lent space, each a pointer and a length.
 pub type Service = unsafe extern "C" fn(*const u8, usize, *mut u8, usize) -> u64;

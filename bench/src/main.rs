@@ -4,6 +4,7 @@
 //!     bench growth ROUNDS        the same of `inputs::growth`, without the second
 //!     bench once SERVICE FILE [CALLS]
 //!                                one call or some, for callgrind and perf
+//!     bench stack                the bytes of stack that a call takes
 //!     bench files                the files: name, bytes, answer, what they are
 //!
 //! All services get the same file and the same space of 65,536 bytes. In each
@@ -14,7 +15,7 @@ use std::env;
 use std::process::exit;
 use std::time::Instant;
 
-use bench::{call, inputs, Service, SERVICES};
+use bench::{call, inputs, stack, Service, SERVICES};
 
 /// What a turn takes, at least.
 const TURN: u128 = 1_000_000;
@@ -65,9 +66,8 @@ impl Runner {
 
 fn measure(services: &[(&str, Service)], file: &[u8], rounds: usize) -> Vec<Measured> {
     let mut space = vec![0; 65_536];
-    let new = |(name, service): &(&str, Service)| {
-        Runner::new(name, *service, file, &mut space, rounds)
-    };
+    let new =
+        |(name, service): &(&str, Service)| Runner::new(name, *service, file, &mut space, rounds);
     let mut runners: Vec<Runner> = services.iter().map(new).collect();
     for round in 0..rounds {
         for runner in runners.iter_mut().filter(|runner| round < runner.rounds) {
@@ -132,6 +132,15 @@ fn main() {
                 line(&name, &measure(&SERVICES[..2], &file, rounds.parse().expect("a number")));
             }
         }
+        ["stack"] => {
+            let mut space = vec![0; 65_536];
+            for (name, _, file) in inputs::all() {
+                let taken = |(_, service): &(&str, Service)| {
+                    format!("\t{}", stack::taken(*service, &file, &mut space))
+                };
+                println!("{name}{}", SERVICES.iter().map(taken).collect::<String>());
+            }
+        }
         ["files"] => {
             for (name, words, file) in inputs::all() {
                 println!("{name}\t{}\t{}\t{words}", file.len(), agree(name, &file));
@@ -140,7 +149,9 @@ fn main() {
         ["once", service, name] => once(service, name, 1),
         ["once", service, name, calls] => once(service, name, calls.parse().expect("a number")),
         _ => {
-            eprintln!("usage: bench time ROUNDS | growth ROUNDS | files | once SERVICE FILE [CALLS]");
+            eprintln!(
+                "usage: bench time ROUNDS | growth ROUNDS | stack | files | once SERVICE FILE [CALLS]"
+            );
             exit(2);
         }
     }

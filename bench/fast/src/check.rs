@@ -77,24 +77,8 @@ const fn first_april(year: u64) -> u64 {
 }
 
 /// 10 to the power of a meter's digits.
-const TURN: [u64; 16] = [
-    1,
-    10,
-    100,
-    1_000,
-    10_000,
-    100_000,
-    1_000_000,
-    10_000_000,
-    100_000_000,
-    0,
-    0,
-    0,
-    0,
-    0,
-    0,
-    0,
-];
+const TURN: [u64; 16] =
+    [1, 10, 100, 1_000, 10_000, 100_000, 1_000_000, 10_000_000, 100_000_000, 0, 0, 0, 0, 0, 0, 0];
 
 /// Judges the whole file by 1 to 12, and settles each point that has passed
 /// into the table.
@@ -351,10 +335,8 @@ fn meter(cursor: &mut Cursor, year: &Year, point: &mut Point) -> Result<(), u32>
                 return Err(11);
             }
             let advance = value + rollover * turn - earlier_value;
-            span = point.advance(
-                span,
-                &Advance { from: earlier_day, to: day, tenths: advance * parts },
-            );
+            span = point
+                .advance(span, &Advance { from: earlier_day, to: day, tenths: advance * parts });
         }
         (earlier_day, earlier_value, least) = (day, value, day + 1);
         cursor.at += 44;
