@@ -1,7 +1,7 @@
 // A batch on standard input: cases one after the other, each of three numbers of 4 bytes, most significant first (the length of the file, the
 // entries of the table lent, the bytes of report space lent), and then the file's bytes.
 ghost use mathlib.Core.Path.{_≡_};
-ghost use Prim.Native.Nat.{_≤_, _<_};
+ghost use Prim.Native.Nat.{_≤_, _<_, min};
 ghost use lib.ListN.{length};
 
 // The most cases of a batch.
@@ -20,13 +20,19 @@ fn wide(x: u8) -> usize
     x as usize
 }
 
-// The first of a case's numbers.
-fn size_of(head: [u8; 12]) -> usize {
-    ((wide(head[0]) * 256 + wide(head[1])) * 256 + wide(head[2])) * 256 + wide(head[3])
+// The i-th of a case's three numbers, from 0.
+fn number_at(head: [u8; 12], i: usize) -> usize
+    requires { ⌜ i < 3 ⌝ }
+{
+    let at = 4 * i;
+    let high = wide(head[at]) * 256 + wide(head[at + 1]);
+    let low = wide(head[at + 2]) * 256 + wide(head[at + 3]);
+    high * 65536 + low
 }
 
-fn least(a: usize, b: usize) -> usize
-    ensures { λ r. ⌜ (r ≤ a) × (r ≤ b) ⌝ }
+// The lesser of two.
+pub fn least(a: usize, b: usize) -> usize
+    ensures { λ r. ⌜ r ≡ min a b ⌝ }
 {
     if a < b { a } else { b }
 }
@@ -48,10 +54,13 @@ fn passed_over(space: &mut [u8], count: usize) -> bool {
     true
 }
 
-// A case that was read into a space: whether there is one, and how much of its file was kept.
+// A case that was read into a space: whether there is one, how much of its file was kept, and what is to be lent, entries of a table and bytes of
+// report space.
 pub struct Case {
     pub there: bool,
     pub kept: usize,
+    pub entries: usize,
+    pub bytes: usize,
 }
 
 fn no_case() -> Case
@@ -60,6 +69,8 @@ fn no_case() -> Case
     Case {
         there: false,
         kept: 0,
+        entries: 0,
+        bytes: 0,
     }
 }
 
@@ -72,7 +83,7 @@ pub fn next_case(space: &mut [u8]) -> Case
     if n < 12 {
         return no_case();
     }
-    let size = size_of(head);
+    let size = number_at(head, 0);
     let kept = least(size, space.len());
     let m = io::read_full(0, &mut space[..kept]);
     if m < kept {
@@ -84,5 +95,10 @@ pub fn next_case(space: &mut [u8]) -> Case
             return no_case();
         }
     }
-    Case { there: true, kept }
+    Case {
+        there: true,
+        kept,
+        entries: number_at(head, 1),
+        bytes: number_at(head, 2),
+    }
 }

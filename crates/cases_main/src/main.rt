@@ -1,5 +1,7 @@
-// Prints the rows and the statements of each file of a batch. A line `rows` has the number, the count and how many of the 64 entries lent are past
-// the answer and as they were found, clear; then a line for each row, and one for each statement up to the first that is refused.
+// Prints the rows, the statements and the report of each file of a batch. A line `rows` has the number, the count and how many of the 64 entries
+// lent are past the answer and as they were found, clear; then a line for each row, and one for each statement up to the first that is refused.
+// A line `report` has the answer and how many of the bytes lent are past it and as they were found; then the report, where one was written.
+ghost use Prim.Native.Nat.{_≤_};
 use rules::Centipence;
 use rules::Row;
 use rules::StatementAnswer;
@@ -105,8 +107,59 @@ fn print_statements(file: &[u8]) {
     }
 }
 
+// What a byte of the report space holds before the call: no byte of a text, and no two neighbours alike.
+fn byte_found(place: usize) -> u8 {
+    128 + (place % 127) as u8
+}
+
+fn fill(space: &mut [u8]) {
+    let mut i: usize = 0;
+    while i < space.len() {
+        space[i] = byte_found(i);
+        i += 1;
+    }
+}
+
+// One where a byte is as found, and else none.
+fn as_found(byte: u8, place: usize) -> u64
+    ensures { λ r. ⌜ r ≤ 1 ⌝ }
+{
+    if byte == byte_found(place) { 1 } else { 0 }
+}
+
+// How many bytes from a place on are as found.
+fn kept_from(space: &[u8], from: usize) -> u64 {
+    let mut kept: u64 = 0;
+    let mut i = from;
+    while i < space.len() {
+        kept += as_found(space[i], i);
+        i += 1;
+    }
+    kept
+}
+
+fn print_kept(space: &[u8], from: usize) {
+    print_number(kept_from(space, from));
+    io::write_all(1, b"\n");
+}
+
+// No report is under 52 bytes, and no refusal's number over 14.
+fn print_report(file: &[u8], space: &mut [u8]) {
+    fill(space);
+    let answer = unit::settlement_report(file, space);
+    io::write_all(1, b"report");
+    print_number(answer);
+    if answer < 52 {
+        print_kept(space, 0);
+        return;
+    }
+    let end = answer as usize;
+    print_kept(space, end);
+    io::write_all(1, &space[..end]);
+}
+
 // Reads a case and prints it; false where there is none.
-fn one_case(space: &mut [u8], number: u64) -> bool {
+fn one_case(space: &mut [u8], lent: &mut [u8], number: u64) -> bool {
     let case = batch::next_case(space);
     if !case.there {
         return false;
@@ -118,12 +171,14 @@ fn one_case(space: &mut [u8], number: u64) -> bool {
     io::write_all(1, b"\n");
     print_rows(file);
     print_statements(file);
+    let bytes = batch::least(case.bytes, lent.len());
+    print_report(file, &mut lent[..bytes]);
     true
 }
 
-fn all_cases(space: &mut [u8]) {
+fn all_cases(space: &mut [u8], lent: &mut [u8]) {
     for number in 0..batch::CASES {
-        if !one_case(space, number) {
+        if !one_case(space, lent, number) {
             break;
         }
     }
@@ -131,5 +186,6 @@ fn all_cases(space: &mut [u8]) {
 
 fn main() {
     let mut space = batch::room();
-    all_cases(&mut space);
+    let mut lent = io::large_buffer();
+    all_cases(&mut space, &mut lent);
 }

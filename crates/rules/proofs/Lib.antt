@@ -9,4 +9,5 @@ pub mod InForce
 pub mod Kept
 pub mod Examples
 pub mod Sentences
+pub mod Numbers
 pub mod Services

@@ -1,5 +1,6 @@
 -- `batch::next_case` meets its contract. Assumes nothing.
 use mathlib.Core.Path.{sym}
+use native.Mathlib.Omega.{arith}
 use lib.Seq.{length-take-le}
 use borrow.Author.Needs.{needs}
 use Rattle.batch.proofs.next_case.Statement.{statement}
@@ -17,8 +18,8 @@ no-case-requires c κs = search needs
 returns : tie.Need-returns
 returns c = search needs
 
-size-of-requires : tie.Need-size-of-requires
-size-of-requires c κs = search needs
+number-at-requires : tie.Need-number-at-requires
+number-at-requires c κs = search needs
 
 least-requires : tie.Need-least-requires
 least-requires c κs = search needs
@@ -27,7 +28,7 @@ slice-relend-prefix-read-full : tie.Need-slice-relend-prefix-read-full
 slice-relend-prefix-read-full c = search needs
 
 slice-aggregate-read-full-2 : tie.Need-slice-aggregate-read-full-2
-slice-aggregate-read-full-2 c = sym (length-take-le _ _ (c .before .least .ensures .1))
+slice-aggregate-read-full-2 c = sym (length-take-le _ _ (omega (arith, c .before .least .ensures)))
 
 read-full-requires-2 : tie.Need-read-full-requires-2
 read-full-requires-2 c κs = search needs
@@ -59,17 +60,17 @@ same-length-2 c = search needs
 returns-3 : tie.Need-returns-3
 returns-3 c = search needs
 
+number-at-requires-2 : tie.Need-number-at-requires-2
+number-at-requires-2 c κs = search needs
+
+number-at-requires-3 : tie.Need-number-at-requires-3
+number-at-requires-3 c κs = search needs
+
 same-length-3 : tie.Need-same-length-3
 same-length-3 c = search needs
 
 returns-4 : tie.Need-returns-4
 returns-4 c = search needs
-
-same-length-4 : tie.Need-same-length-4
-same-length-4 c = search needs
-
-returns-5 : tie.Need-returns-5
-returns-5 c = search needs
 
 pub next-case-spec : {M : Type 1} → statement M
 next-case-spec =
@@ -79,7 +80,7 @@ next-case-spec =
     read-full-requires
     no-case-requires
     returns
-    size-of-requires
+    number-at-requires
     least-requires
     slice-relend-prefix-read-full
     slice-aggregate-read-full-2
@@ -93,7 +94,7 @@ next-case-spec =
     no-case-requires-3
     same-length-2
     returns-3
+    number-at-requires-2
+    number-at-requires-3
     same-length-3
-    returns-4
-    same-length-4
-    returns-5)
+    returns-4)

@@ -2,6 +2,7 @@
 use mathlib.Core.Path.{_≡_, sym}
 use borrow.Author.Needs.{needs}
 use lib.ListN.{length}
+use native.Mathlib.Omega.{arith}
 use lib.Seq.{length-take-le}
 use Rattle.batch.proofs.passed_over.Statement.{statement}
 use Rattle.batch.proofs.passed_over.Tie as tie
@@ -23,7 +24,7 @@ passed-over-spec =
     (λ c. search needs)
     (λ c. search needs)
     (λ c. search needs)
-    (λ c. sym (length-take-le _ _ (c .before .before .least .ensures .1)))
+    (λ c. sym (length-take-le _ _ (omega (arith, c .before .before .least .ensures))))
     (λ c κs. search needs)
     (λ c. search needs)
     (λ c. search needs)

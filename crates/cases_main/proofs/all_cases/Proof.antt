@@ -1,4 +1,4 @@
--- `all_cases` meets its contract: the space keeps its length, and the count of cases ends the loop. Assumes nothing.
+-- `all_cases` meets its contract: what is lent keeps its length, and the count of cases ends the loop. Assumes nothing.
 use Prim.Native.Nat.{_≤_, _-_}
 use mathlib.Core.Path.{_≡_}
 use lib.ListN.{length}
@@ -7,10 +7,10 @@ use Rattle.cases_main.proofs.all_cases.Statement.{statement}
 use Rattle.cases_main.proofs.all_cases.Tie as tie
 
 abbrev Inv-loop : tie.InvT-loop
-Inv-loop space₀ number₀ space number = (number ≤ 1000000) × (length space ≡ length space₀)
+Inv-loop space₀ lent₀ number₀ space lent number = (number ≤ 1000000) × (length space ≡ length space₀) × (length lent ≡ length lent₀)
 
 abbrev μ-loop : tie.MeasureT-loop
-μ-loop space₀ number₀ space number = 1000000 - number
+μ-loop space₀ lent₀ number₀ space lent number = 1000000 - number
 
 loop-holds : tie.Need-loop-holds Inv-loop μ-loop
 loop-holds c = search needs
@@ -30,11 +30,17 @@ loop-again c = search needs
 same-length : tie.Need-same-length Inv-loop μ-loop
 same-length c = search needs
 
+same-length-2 : tie.Need-same-length-2 Inv-loop μ-loop
+same-length-2 c = search needs
+
 returns : tie.Need-returns Inv-loop μ-loop
 returns c = search needs
 
-same-length-2 : tie.Need-same-length-2 Inv-loop μ-loop
-same-length-2 c = search needs
+same-length-3 : tie.Need-same-length-3 Inv-loop μ-loop
+same-length-3 c = search needs
+
+same-length-4 : tie.Need-same-length-4 Inv-loop μ-loop
+same-length-4 c = search needs
 
 returns-2 : tie.Need-returns-2 Inv-loop μ-loop
 returns-2 c = search needs
@@ -51,6 +57,8 @@ all-cases-spec =
     loop-less
     loop-again
     same-length
-    returns
     same-length-2
+    returns
+    same-length-3
+    same-length-4
     returns-2)

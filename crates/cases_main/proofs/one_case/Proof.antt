@@ -1,5 +1,6 @@
 -- `one_case` meets its contract. Assumes nothing.
 use mathlib.Core.Path.{sym}
+use native.Mathlib.Omega.{arith}
 use lib.Seq.{length-take-le}
 use borrow.Author.Needs.{needs}
 use Rattle.cases_main.proofs.one_case.Statement.{statement}
@@ -41,8 +42,23 @@ print-rows-requires c κs = search needs
 print-statements-requires : tie.Need-print-statements-requires
 print-statements-requires c κs = search needs
 
+least-requires : tie.Need-least-requires
+least-requires c κs = search needs
+
+slice-relend-prefix-print-report : tie.Need-slice-relend-prefix-print-report
+slice-relend-prefix-print-report c = search needs
+
+slice-aggregate-print-report : tie.Need-slice-aggregate-print-report
+slice-aggregate-print-report c = sym (length-take-le _ _ (omega (arith, c .before .least .ensures)))
+
+print-report-requires : tie.Need-print-report-requires
+print-report-requires c κs = search needs
+
 same-length-2 : tie.Need-same-length-2
 same-length-2 c = search needs
+
+same-length-3 : tie.Need-same-length-3
+same-length-3 c = search needs
 
 returns-2 : tie.Need-returns-2
 returns-2 c = search needs
@@ -63,5 +79,10 @@ one-case-spec =
     write-all-requires-2
     print-rows-requires
     print-statements-requires
+    least-requires
+    slice-relend-prefix-print-report
+    slice-aggregate-print-report
+    print-report-requires
     same-length-2
+    same-length-3
     returns-2)
