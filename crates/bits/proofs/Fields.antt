@@ -43,13 +43,22 @@ module _ (b : List ℕ) (k : ℕ) (h : getD b k 0 < 256) where
   field-byte = byte-front 8 (omega arith) ∙ omega arith
 
 -- a byte, and n bytes and one more
-pub field-first : (b : List ℕ) (k : ℕ) {y : ℕ} → (y ≡ getD b k 0) × (y < 256) → y ≡ field b (k * 8) 8
+field-first : (b : List ℕ) (k : ℕ) {y : ℕ} → (y ≡ getD b k 0) × (y < 256) → y ≡ field b (k * 8) 8
 field-first b k q = q .0 ∙ sym (field-byte b k (subst (λ (z : ℕ). z < 256) (q .0) (q .1)))
 
-pub field-more : (b : List ℕ) (k n : ℕ) {x y : ℕ} → x ≡ field b (k * 8) (n * 8) → (y ≡ getD b (k + n) 0) × (y < 256) → x * 256 + y ≡ field b (k * 8) (n * 8 + 8)
+field-more : (b : List ℕ) (k n : ℕ) {x y : ℕ} → x ≡ field b (k * 8) (n * 8) → (y ≡ getD b (k + n) 0) × (y < 256) → x * 256 + y ≡ field b (k * 8) (n * 8 + 8)
 field-more b k n p q =
     ap₂ (λ (u v : ℕ). u * 256 + v) p (field-first b (k + n) q ∙ ap (λ (a : ℕ). field b a 8) (omega arith))
     ∙ sym (field-split b (k * 8) (n * 8) 8)
+
+-- a byte of a file
+abbrev pub ByteOf : List ℕ → ℕ → ℕ → Type 0
+ByteOf b k y = (y ≡ getD b k 0) × (y < 256)
+
+-- five bytes, the first the most significant
+pub field-five : (b : List ℕ) (k : ℕ) {b0 b1 b2 b3 b4 : ℕ} → ByteOf b k b0 → ByteOf b (k + 1) b1 → ByteOf b (k + 2) b2 → ByteOf b (k + 3) b3 → ByteOf b (k + 4) b4
+    → (((b0 * 256 + b1) * 256 + b2) * 256 + b3) * 256 + b4 ≡ field b (k * 8) 40
+field-five b k p q r s t = field-more b k 4 (field-more b k 3 (field-more b k 2 (field-more b k 1 (field-first b k p) q) r) s) t
 
 -- `1u64 << w`
 pub one-shl : (w : ℕ) → w ≤ 32 → 1 * 2 ^ w % 2 ^ 64 ≡ 2 ^ w

@@ -1,11 +1,12 @@
--- From point to point of an accepted file: the points that are left at a position are sound and end within the file. Assumes nothing.
+-- From point to point of an accepted file: the points that are left at a position are its, are sound and end within the file. Assumes nothing.
 use Prim.Native.Nat.{ℕ, zero, suc, _+_, _-_, _*_, _^_, _≤_, _<_}
 use mathlib.Core.Path.{_≡_, refl, sym, ap, _∙_, subst}
+use mathlib.Core.Logic.{inl, inr}
 use mathlib.Core.List.{List, [], _∷_}
 use native.Mathlib.Omega.{arith}
 use lib.ListN.{length}
 use Rattle.rules.specs.declared.Header.{Header}
-use Rattle.rules.specs.Lists.{All}
+use Rattle.rules.specs.Lists.{All, In}
 use Rattle.rules.specs.File.{Tariff, Point, records, after, headerAt, bandAt, pointAt, points, bandsAt, bands, afterBands, afterPoint, afterPoints, decode}
 use Rattle.rules.specs.Good.{GoodPoint, Good}
 use Rattle.records.proofs.Positions.{length-records, forward, point-forward, records-wide}
@@ -15,6 +16,8 @@ module _ (b : List ℕ) where
     pub good : All (GoodPoint (decode b .tariff .service)) (points b left at)
     pub ends : afterPoints at (points b left at) ≤ length b * 8
     pub short : length b ≤ 65536
+    -- they are among the file's
+    pub among : (point : Point) → In point (points b left at) → In point (decode b .points)
 
   pub left-within : {left at : ℕ} → PointsLeft left at → at < 2 ^ 32
   left-within {left} {at} p = omega (arith, p .ends, p .short, forward point-forward at (points b left at))
@@ -48,7 +51,10 @@ module _ (b : List ℕ) where
     point-within = omega (arith, point-ends, p .short)
 
     pub points-next : PointsLeft (left - 1) next
-    points-next = record { good = all .1; ends = end; short = p .short }
+    points-next = record { good = all .1; ends = end; short = p .short; among = λ point m. p .among point (subst (In point) (sym (points-one left at h)) (inr m)) }
+
+    pub point-among : In (pointAt b at) (decode b .points)
+    point-among = p .among _ (subst (In (pointAt b at)) (sym (points-one left at h)) (inl refl))
 
   -- all points, after the bands
   module _ (g : Good b) {head : Header} {start : ℕ} (e : (head ≡ headerAt b) × (start ≡ bandsAt)) where
@@ -68,6 +74,7 @@ module _ (b : List ℕ) where
           good = subst (All (GoodPoint (decode b .tariff .service))) (sym file-points) (g .points);
           ends = omega (arith, g .fits, ap (λ at. afterPoints at (points b (head .points) (start + head .bands * 90))) bands-end, ap (afterPoints (afterBands bandsAt (decode b .tariff .bands))) file-points);
           short = g .short;
+          among = λ point m. subst (In point) file-points m;
         }
 
     pub year-from : 2020 ≤ head .year

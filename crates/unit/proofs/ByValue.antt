@@ -11,7 +11,8 @@ use Rattle.rules.specs.File.{decode}
 use Rattle.rules.specs.Refusal.{when, firstOr, refusal}
 use Rattle.rules.specs.Settlement.{rows}
 use Rattle.rules.specs.Services.{written, roomNumber, rowsNumber, rowsAnswer, rowsAfter}
-use Rattle.rows.specs.Rows.{blank, ProvidersOf, RowsOf}
+use Rattle.figures.specs.Figures.{ProvidersOf}
+use Rattle.rows.specs.Rows.{blank, RowsOf}
 use Rattle.unit.specs.declared.Judged.{Judged}
 use Rattle.unit.specs.Judged.{JudgedBy}
 use Rattle.unit.specs.Handed.{HandedBack}

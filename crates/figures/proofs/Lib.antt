@@ -1,0 +1,4 @@
+pub mod Owners
+pub mod Own
+pub mod Charging
+pub mod Sums

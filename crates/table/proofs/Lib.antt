@@ -1,0 +1,11 @@
+pub mod AddAllKinds
+pub mod AddAllReads
+pub mod AddKinds
+pub mod AddReads
+pub mod ClearKinds
+pub mod ClearReads
+pub mod Laws
+pub mod RowKind
+pub mod RowsIntoKinds
+pub mod RowsIntoReads
+pub mod Run
