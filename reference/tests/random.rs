@@ -343,9 +343,10 @@ fn spliced_and_cut_files() {
     }
     assert!(spliced.numbers[&0] > 400, "{}", spliced.numbers[&0]);
     let cut = coverage(Sort::Cut, 1_500);
-    for number in [0, 1, 2, 12] {
+    // one in 48 keeps its own length, and of those some were spliced
+    for (number, least) in [(0, 10), (1, 20), (2, 20), (12, 20)] {
         let files = cut.numbers.get(&number).copied().unwrap_or(0);
-        assert!(files >= 20, "number {number}: {files}");
+        assert!(files >= least, "number {number}: {files}");
     }
     let lengths: Vec<usize> = (0..1_500).map(|seed| random::file(Sort::Cut, seed).len()).collect();
     for part in 0..16 {
