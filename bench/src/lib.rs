@@ -1,4 +1,4 @@
-//! The three report services behind one signature, and the files on which they
+//! The four report services behind one signature, and the files on which they
 //! are measured.
 
 pub mod inputs;
@@ -12,20 +12,36 @@ extern "C" {
     pub fn settlement_report(file: *const u8, file_len: usize, space: *mut u8, len: usize) -> u64;
 }
 
-/// The fast Rust version's.
+/// The unit's algorithm in Rust.
 ///
 /// # Safety
 /// The pointers are to that many bytes.
 #[no_mangle]
 #[inline(never)]
-pub unsafe extern "C" fn fast_report(
+pub unsafe extern "C" fn days_report(
     file: *const u8,
     file_len: usize,
     space: *mut u8,
     space_len: usize,
 ) -> u64 {
     let file = std::slice::from_raw_parts(file, file_len);
-    fast::report(file, std::slice::from_raw_parts_mut(space, space_len))
+    days::report(file, std::slice::from_raw_parts_mut(space, space_len))
+}
+
+/// Another algorithm in Rust.
+///
+/// # Safety
+/// The pointers are to that many bytes.
+#[no_mangle]
+#[inline(never)]
+pub unsafe extern "C" fn spans_report(
+    file: *const u8,
+    file_len: usize,
+    space: *mut u8,
+    space_len: usize,
+) -> u64 {
+    let file = std::slice::from_raw_parts(file, file_len);
+    spans::report(file, std::slice::from_raw_parts_mut(space, space_len))
 }
 
 /// The second implementation's.
@@ -45,8 +61,12 @@ pub unsafe extern "C" fn second_report(
     reference::services::report(file, space) as u64
 }
 
-pub const SERVICES: [(&str, Service); 3] =
-    [("unit", settlement_report), ("fast", fast_report), ("second", second_report)];
+pub const SERVICES: [(&str, Service); 4] = [
+    ("unit", settlement_report),
+    ("days", days_report),
+    ("spans", spans_report),
+    ("second", second_report),
+];
 
 /// Calls a service.
 #[inline(always)]
