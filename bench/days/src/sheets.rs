@@ -37,6 +37,15 @@ struct Part {
     sums: [u64; 4],
 }
 
+/// What makes the basis of a point: the litres of days neither vacant nor
+/// disconnected, and the allowances and thresholds of days not vacant.
+#[derive(Clone, Copy, Default)]
+struct Sums {
+    volume: u64,
+    allowance: u64,
+    threshold: u64,
+}
+
 impl Sheets {
     #[inline(always)]
     pub fn new() -> Sheets {
@@ -69,8 +78,7 @@ impl Sheets {
         (self.from, self.count) = (from, ((to - from) as usize).min(366));
         self.fill_providers(point, cursor);
         self.fill_conditions(point, cursor);
-        for sheet in
-            [&mut self.litres, &mut self.annual, &mut self.allowance, &mut self.threshold]
+        for sheet in [&mut self.litres, &mut self.annual, &mut self.allowance, &mut self.threshold]
         {
             sheet[..self.count].fill(0);
         }
@@ -164,48 +172,44 @@ impl Sheets {
         }
     }
 
-    /// The litres of the days that are neither vacant nor disconnected, and
-    /// the allowances and thresholds of the days that are not vacant.
+    /// What the days from an entry to another have, in one loop; what makes
+    /// the basis is added to its sums.
     #[inline(always)]
-    fn basis_sums(&self) -> (u64, u64, u64) {
-        let occupied = &self.occupied[..self.count];
-        let of = |sheet: &Sheet| {
-            sheet[..self.count].iter().zip(occupied).map(|(figure, mask)| figure & mask).sum()
-        };
-        let litres = self.litres[..self.count].iter().zip(&self.supplied[..self.count]);
-        let volume = litres.zip(occupied).map(|((litres, one), other)| litres & one & other).sum();
-        (volume, of(&self.allowance), of(&self.threshold))
-    }
-
-    /// What the days from an entry to another have.
-    #[inline(always)]
-    fn part(&self, from: usize, to: usize) -> Part {
-        let litres = self.litres[from..to].iter().zip(&self.supplied[from..to]);
-        let litres = litres.map(|(litres, mask)| litres & mask);
-        let k = &self.discounted[from..to];
-        Part {
-            days: (to - from) as u64,
-            litres: litres.clone().sum(),
-            sums: [
-                self.annual[from..to].iter().zip(k).map(|(annual, k)| annual * k).sum(),
-                litres.zip(k).map(|(litres, k)| litres * k).sum(),
-                self.property[from..to].iter().sum(),
-                self.roads[from..to].iter().sum(),
-            ],
+    fn part(&self, from: usize, to: usize, basis: &mut Sums) -> Part {
+        let count = to - from;
+        let (supplied, occupied) = (&self.supplied[from..to], &self.occupied[from..to]);
+        let (litres, discounted) = (&self.litres[from..to], &self.discounted[from..to]);
+        let (property, roads) = (&self.property[from..to], &self.roads[from..to]);
+        let (allowance, threshold) = (&self.allowance[from..to], &self.threshold[from..to]);
+        let annual = &self.annual[from..to];
+        let mut part = Part { days: count as u64, ..Part::default() };
+        for day in 0..count {
+            // k is at most 10,000, which spares a part of each product
+            let k = u64::from(discounted[day] as u32);
+            let given = litres[day] & supplied[day];
+            part.litres += given;
+            part.sums[0] += annual[day] * k;
+            part.sums[1] += given * k;
+            part.sums[2] += property[day];
+            part.sums[3] += roads[day];
+            basis.volume += given & occupied[day];
+            basis.allowance += allowance[day] & occupied[day];
+            basis.threshold += threshold[day] & occupied[day];
         }
+        part
     }
 
-    /// What each provider has of the days, at its place in the table. It is
-    /// looked up once for each run of days.
+    /// What each provider has of the days, at its place in the table, and the
+    /// sums of the basis. A provider is looked up once for each run of days.
     #[inline(always)]
-    fn parts(&self, table: &Table) -> [Part; 64] {
-        let mut parts = [Part::default(); 64];
+    fn add_parts(&self, table: &Table, parts: &mut [Part; 64]) -> Sums {
+        let mut basis = Sums::default();
         let provider = &self.provider[..self.count];
         let mut from = 0;
         while from < provider.len() {
             let run = provider[from..].iter().take_while(|other| **other == provider[from]);
             let to = from + run.count();
-            let more = self.part(from, to);
+            let more = self.part(from, to, &mut basis);
             let part = &mut parts[table.place(provider[from]) & 63];
             part.days += more.days;
             part.litres += more.litres;
@@ -214,7 +218,7 @@ impl Sheets {
             }
             from = to;
         }
-        parts
+        basis
     }
 
     /// "Order the providers ascending. A provider's charge is the floor of the
@@ -222,9 +226,9 @@ impl Sheets {
     /// before it."
     #[inline(always)]
     pub fn share_out(&self, year: &Year, table: &mut Table) {
-        let (volume, allowance, threshold) = self.basis_sums();
-        let basis = year.basis(volume, allowance, threshold);
-        let parts = self.parts(table);
+        let mut parts = [Part::default(); 64];
+        let all = self.add_parts(table, &mut parts);
+        let basis = year.basis(all.volume, all.allowance, all.threshold);
         let mut sums = [0; 4];
         let mut before = [0; 4];
         for (place, part) in parts[..table.count].iter().enumerate() {
