@@ -1,8 +1,8 @@
-"""A plot of curves in panels, as SVG: one panel for each count that grows, a line for the unit and one for the fast version."""
+"""A plot of curves in panels, as SVG: one panel for each count that grows, a line for the unit and one for each fast version."""
 import math
 
 WIDTH, HEIGHT, LEFT, TOP, RIGHT, BOTTOM = 420, 280, 62, 34, 16, 44
-COLOURS = [("unit", "#b5451b"), ("fast Rust version", "#1f5fa8")]
+COLOURS = [("unit", "#b5451b"), ("days (the same algorithm in Rust)", "#1f5fa8"), ("spans (another algorithm)", "#2e7d4f")]
 
 
 def step(most):
@@ -46,7 +46,7 @@ def panels(curves):
     for place, (title, points) in enumerate(curves.items()):
         out += panel(title, points, place % 2 * WIDTH, place // 2 * HEIGHT)
     for place, (name, colour) in enumerate(COLOURS):
-        x, y = 300 + 140 * place, rows * HEIGHT + 6
+        x, y = LEFT + 240 * place, rows * HEIGHT + 6
         out.append(f'<line x1="{x}" y1="{y}" x2="{x + 24}" y2="{y}" stroke="{colour}" stroke-width="2"/>')
         out.append(words(x + 30, y + 4, name, "start"))
     size = f'width="{2 * WIDTH}" height="{rows * HEIGHT + 24}"'
