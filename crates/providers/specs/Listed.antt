@@ -40,6 +40,12 @@ pub record MovedUp (list out : List ℕ) (at count : ℕ) : Type 0 where
   pub low : (k : ℕ) → k < at → getD out k 0 ≡ getD list k 0
   pub high : (k : ℕ) → at ≤ k → k < count → getD out (k + 1) 0 ≡ getD list k 0
 
+-- the days from `from` on, before `to`, have the provider of the first of them
+pub record SameOwner (owner : List ℕ) (from n to : ℕ) : Type 0 where
+  pub some : from < to
+  pub within : to ≤ n
+  pub same : (i : ℕ) → from ≤ i → i < to → getD owner i 0 ≡ getD owner from 0
+
 -- the providers of the n first days of a sheet, put in one after the other
 unfoldable pub insertSheet : List ℕ → ℕ → List ℕ → List ℕ
 insertSheet sheet zero ps = ps

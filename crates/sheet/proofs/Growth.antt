@@ -1,6 +1,6 @@
 -- Laws of sheets that are added to. Assumes nothing.
 use Prim.Native.Nat.{ℕ, _+_, _-_, _*_, _/_, _≤_, _<_, _^_, min}
-use mathlib.Core.Path.{_≡_, refl, ap, _∙_, subst}
+use mathlib.Core.Path.{_≡_, refl, ap, ap₂, _∙_, subst}
 use mathlib.Core.List.{List}
 use native.Mathlib.Nat.{le-refl, mul-le-mul, mul-le-mul-left, div-le-of-le-mul, mul-comm}
 use native.Mathlib.Decide.{decLt}
@@ -9,6 +9,7 @@ use borrow.Author.Tests.{le-leb, lt-leb, lt-ltb, le-ltb}
 use lib.ListN.{length, getD, set}
 use Rattle.rules.specs.Sums.{only}
 use Rattle.rules.specs.Litres.{carriedBefore}
+use Rattle.rules.proofs.Shares.{div-mono}
 use Rattle.sheet.specs.Sheets.{Grown, Room}
 use Rattle.sheet.specs.Meters.{during, carried, spread, Spreadable}
 use Rattle.sheet.proofs.Laws.{Written, written-none, written-more}
@@ -118,6 +119,19 @@ amount-fits s = omega (arith, mul-le-mul (s .few) (s .whole))
 
 pub days-fit : {litres parts first last : ℕ} (j : ℕ) → Spreadable litres parts first last → j ≤ 3660 → litres * parts * j ≤ 3660000000000000000
 days-fit j s h = omega (arith, mul-le-mul (amount-fits s) h)
+
+-- a day of an advance carries what the days up to and with it carry, less what those before it carry
+module _ (litres parts first last : ℕ) {d before up : ℕ} (from : first ≤ d) (b : before ≡ carriedBefore litres parts (last - first) (d - first))
+    (u : up ≡ carriedBefore litres parts (last - first) (d + 1 - first)) where
+  pub carried-grows : before ≤ up
+  unfolding carriedBefore
+  carried-grows = rw (b, u) (div-mono (10000 * (last - first)) (mul-le-mul-left (litres * parts) (omega arith)))
+
+  pub carried-step : up - before ≡ carried litres parts first last d
+  unfolding carried
+  carried-step =
+      let next : d + 1 - first ≡ d - first + 1 = omega arith in
+      ap₂ _-_ (u ∙ ap (carriedBefore litres parts (last - first)) next) b
 
 -- a day of an advance carries at most the litres × parts
 pub spread-most : {litres parts first last : ℕ} (d : ℕ) → Spreadable litres parts first last → spread litres parts first last d ≤ litres * parts

@@ -4,8 +4,6 @@ pub mod AddKinds
 pub mod AddReads
 pub mod ClearKinds
 pub mod ClearReads
-pub mod Laws
 pub mod RowKind
 pub mod RowsIntoKinds
 pub mod RowsIntoReads
-pub mod Run
