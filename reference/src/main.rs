@@ -23,7 +23,7 @@ const USAGE: &str = "usage:
   reference batch TABLE SPACE FILE... > BATCH
   reference pick N < BATCH > FILE      the file of case N
   reference coverage COUNT SEED [SORT] what the files of those seeds bring up
-SORT is any, small or twice";
+SORT is any, small, twice, spliced or cut";
 
 /// What went wrong, and the exit status that says so.
 enum Failure {
@@ -103,10 +103,9 @@ fn number<T: std::str::FromStr>(word: &str) -> Result<T, Failure> {
 }
 
 fn sort_of(words: &[&str]) -> Result<Sort, Failure> {
-    match words {
-        [] | ["any"] => Ok(Sort::Any),
-        ["small"] => Ok(Sort::Small),
-        ["twice"] => Ok(Sort::Twice),
+    let name = words.first().unwrap_or(&"any");
+    match Sort::ALL.iter().find(|(known, _)| known == name) {
+        Some((_, sort)) if words.len() < 2 => Ok(*sort),
         _ => Err(Failure::Usage(format!("no such sort: {}", words.join(" ")))),
     }
 }

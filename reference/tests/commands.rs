@@ -108,7 +108,7 @@ report 2 0
 
 #[test]
 fn random_files_and_batches() {
-    for (sort, name) in [(Sort::Any, "any"), (Sort::Small, "small"), (Sort::Twice, "twice")] {
+    for (name, sort) in Sort::ALL {
         let batch = printed(&["random-batch", "5", "70", name], b"");
         let cases = (70..75).flat_map(|seed| write_case(&random::case(sort, seed)));
         assert_eq!(batch, cases.collect::<Vec<u8>>());

@@ -15,7 +15,7 @@ use reference::services::{self, accept};
 use reference::settlement::{exact, figures, statement, Row, Statement};
 use reference::text;
 
-const SORTS: [Sort; 3] = [Sort::Any, Sort::Small, Sort::Twice];
+const SORTS: [Sort; 5] = [Sort::Any, Sort::Small, Sort::Twice, Sort::Spliced, Sort::Cut];
 
 /// Accepted files, large and small, as bytes and contents.
 fn accepted(large: u64, small: u64) -> Vec<(Vec<u8>, File)> {
@@ -45,7 +45,7 @@ fn by_oracle(bytes: &[u8]) -> u32 {
 
 #[test]
 fn oracle_agrees_on_numbers() {
-    for (sort, seeds) in SORTS.into_iter().zip([600, 2_000, 5_000]) {
+    for (sort, seeds) in SORTS.into_iter().zip([600, 2_000, 5_000, 600, 600]) {
         let mut refused = 0;
         for seed in 0..seeds {
             let bytes = random::file(sort, seed);
@@ -330,6 +330,31 @@ fn small_files_bring_up_as_much() {
     assert!(longest > SMALL - 10 && longest <= SMALL, "{longest}");
     let damaged = (0..6_000).map(|seed| random::file(Sort::Small, seed).len());
     assert!(damaged.max().unwrap() <= SMALL + 9);
+}
+
+/// Of spliced files some are accepted and most numbers come up; cut files have
+/// every size, also the first that is too long.
+#[test]
+fn spliced_and_cut_files() {
+    let spliced = coverage(Sort::Spliced, 1_500);
+    for number in [0, 1, 2, 4, 5, 6, 9, 12, 13] {
+        let files = spliced.numbers.get(&number).copied().unwrap_or(0);
+        assert!(files >= 5, "number {number}: {files}");
+    }
+    assert!(spliced.numbers[&0] > 400, "{}", spliced.numbers[&0]);
+    let cut = coverage(Sort::Cut, 1_500);
+    // one in 48 keeps its own length, and of those some were spliced
+    for (number, least) in [(0, 10), (1, 20), (2, 20), (12, 20)] {
+        let files = cut.numbers.get(&number).copied().unwrap_or(0);
+        assert!(files >= least, "number {number}: {files}");
+    }
+    let lengths: Vec<usize> = (0..1_500).map(|seed| random::file(Sort::Cut, seed).len()).collect();
+    for part in 0..16 {
+        assert!(lengths.iter().any(|length| length / 4_096 == part), "{part}");
+    }
+    for length in MOST_BYTES - 2..=MOST_BYTES + 1 {
+        assert!(lengths.contains(&length), "{length}");
+    }
 }
 
 /// The words of a line of a case.

@@ -1,7 +1,8 @@
-//! Random files and cases: valid files, and damaged ones.
+//! Random files and cases: valid files, and damaged, spliced and cut ones.
 
 mod damage;
 mod rng;
+mod splice;
 mod valid;
 
 pub use rng::Rng;
@@ -23,6 +24,20 @@ pub enum Sort {
     /// Damaged in several ways, often in one record, so that the order of
     /// numbers decides.
     Twice,
+    /// Put together of two files.
+    Spliced,
+    /// Cut or padded to any size up to 65,537 bytes.
+    Cut,
+}
+
+impl Sort {
+    pub const ALL: [(&'static str, Sort); 5] = [
+        ("any", Sort::Any),
+        ("small", Sort::Small),
+        ("twice", Sort::Twice),
+        ("spliced", Sort::Spliced),
+        ("cut", Sort::Cut),
+    ];
 }
 
 pub fn file(sort: Sort, seed: u64) -> Vec<u8> {
@@ -47,10 +62,13 @@ pub fn file(sort: Sort, seed: u64) -> Vec<u8> {
             let file = if rng.one_in(6) { crowded(rng) } else { small(rng) };
             damage::twice(rng, &file)
         }
+        Sort::Spliced => splice::spliced(rng),
+        Sort::Cut => splice::cut(rng),
     }
 }
 
-/// The file of the seed, with what is lent often just enough or short.
+/// The file of the seed. What is lent is often 64 entries and 65,536 bytes,
+/// else about what is needed: one short, just enough, or some more.
 pub fn case(sort: Sort, seed: u64) -> Case {
     let file = file(sort, seed);
     let mut rng = Rng::new(!seed);
@@ -62,18 +80,18 @@ pub fn case(sort: Sort, seed: u64) -> Case {
         Err(_) => (rng.between(1, 64), rng.between(52, 9_000)),
     };
     let entries = match rng.below(8) {
-        0 => 0,
-        1 | 2 => rows.saturating_sub(1),
-        3 | 4 => rows,
-        5 => 64,
+        0..=2 => 64,
+        3 => rows.saturating_sub(1),
+        4 | 5 => rows,
+        6 => *rng.pick(&[0, rows.saturating_sub(1)]),
         _ => rows + rng.between(1, 9),
     };
     let space = match rng.below(10) {
-        0 => *rng.pick(&[0, 51, 52]),
-        1 | 2 => length - 1,
-        3..=5 => length,
-        6 => REPORT_SPACE as u64,
-        7 => rng.between(0, length),
+        0..=3 => REPORT_SPACE as u64,
+        4 => *rng.pick(&[0, 51, 52]),
+        5 => length - 1,
+        6 | 7 => length,
+        8 => rng.between(0, length),
         _ => length + rng.between(1, 99),
     };
     Case { file, entries: entries as u32, space: space as u32 }

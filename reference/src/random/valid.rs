@@ -226,7 +226,7 @@ fn band(rng: &mut Rng, size: u64) -> Band {
     Band { size, annual: rng.field(0, 1_000_000_000), allowance, threshold }
 }
 
-fn number_points(rng: &mut Rng, points: &mut [Point]) {
+pub(super) fn number_points(rng: &mut Rng, points: &mut [Point]) {
     let mut numbers = BTreeSet::new();
     while numbers.len() < points.len() {
         numbers.insert(rng.field(0, u64::from(u32::MAX)));
