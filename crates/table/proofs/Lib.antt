@@ -1,3 +1,5 @@
+pub mod Laws
+pub mod Run
 pub mod AddAllKinds
 pub mod AddAllReads
 pub mod AddKinds

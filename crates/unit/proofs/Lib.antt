@@ -4,3 +4,5 @@ pub mod Tabled
 pub mod Reports
 pub mod RowsKinds
 pub mod RowsReads
+pub mod ReportAcceptedKinds
+pub mod ReportAcceptedReads

@@ -15,7 +15,6 @@ use Rattle.rules.specs.Fits.{Fits, AllFit}
 use Rattle.rules.proofs.Lists.{all-map}
 use Rattle.rules.proofs.Kept.{accepted-good}
 use Rattle.settle.proofs.Rows.{rows-fit}
-use Rattle.rows.specs.Rows.{blank, RowsOf}
 
 module _ (b : List ℕ) where
   refused-number : (n room : ℕ) → n ≡ refusal b → (n ≡ 0 → ⊥) → reportNumber b room ≡ n
@@ -33,11 +32,11 @@ module _ (b : List ℕ) where
   refused-after zero space e h = absurd (h refl)
   refused-after (suc n) space e h = sym (rw (refused-number (suc n) (length space) e h, written))
 
-  module _ {count : ℕ} {t : List Row} (e : refusal b ≡ 0) (r : RowsOf b count t) where
-    -- the rows by value are the file's
+  -- a table whose first rows became the file's, whatever it was lent with
+  module _ {count : ℕ} (lent : List Row) {t : List Row} (e : refusal b ≡ 0) (r : (length (rows (decode b)) ≡ count) × (t ≡ written 0 (rows (decode b)) lent)) where
     first-rows : take count t ≡ rows (decode b)
     unfolding written
-    first-rows = ap (take count) (r .is) ∙ take-at (rows (decode b)) (drop (length (rows (decode b))) blank) count (r .many)
+    first-rows = ap (take count) (r .1) ∙ take-at (rows (decode b)) (drop (length (rows (decode b))) lent) count (r .0)
 
     pub rows-all-fit : AllFit (take count t)
     unfolding rows
