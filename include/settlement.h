@@ -14,8 +14,10 @@
  * Promised, and proved of every file and every space:
  * - the same file and the same space length always give the same answer, to the byte;
  * - bytes of `space` past the report keep their contents, and a refused call leaves all of `space` as it was;
- * - the call ends, keeps nothing between calls, allocates nothing, and calls nothing outside itself beside memcpy and memset, which the compiler
- *   may put in and the C library or the firmware supplies.
+ * - the call ends.
+ *
+ * True of the code as it is built, though no contract says it: the call keeps nothing between calls, allocates nothing, and calls nothing outside
+ * itself beside memcpy and memset, which the compiler may put in and the C library or the firmware supplies.
  *
  * Assumed of the caller, since C can't state it:
  * - `file` points to `file_len` bytes that can be read, and `space` to `space_len` bytes that can be written, until the call returns;
