@@ -1,3 +1,4 @@
+pub mod Refused
 pub mod Breach13
 pub mod Places
 pub mod Tabled

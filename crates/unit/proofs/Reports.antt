@@ -1,5 +1,5 @@
 -- The report service's answer by the refusal of the file, and the report of an accepted file by its rows. Assumes nothing.
-use Prim.Native.Nat.{ℕ, zero, suc, _≤_}
+use Prim.Native.Nat.{ℕ, zero, suc}
 use mathlib.Core.Path.{_≡_, refl, sym, ap, ap₂, _∙_, subst}
 use mathlib.Core.List.{List, _++_}
 use lib.ListN.{length, take, drop}
@@ -7,7 +7,7 @@ use lib.Seq.{take-at}
 use Rattle.rules.specs.declared.Header.{Header}
 use Rattle.rules.specs.declared.Row.{Row}
 use Rattle.rules.specs.File.{headerAt, decode}
-use Rattle.rules.specs.Refusal.{firstOr, refusal}
+use Rattle.rules.specs.Refusal.{refusal}
 use Rattle.rules.specs.Settlement.{rows, rowAnd, clearRow, providersOf}
 use Rattle.rules.specs.Report.{reportOf, report}
 use Rattle.rules.specs.Services.{written, reportNumber, reportAnswer, reportAfter}
@@ -15,17 +15,16 @@ use Rattle.rules.specs.Fits.{Fits, AllFit}
 use Rattle.rules.proofs.Lists.{all-map}
 use Rattle.rules.proofs.Kept.{accepted-good}
 use Rattle.settle.proofs.Rows.{rows-fit}
+use Rattle.unit.proofs.Refused.{first-refused}
 
 module _ (b : List ℕ) where
   refused-number : (n room : ℕ) → n ≡ refusal b → (n ≡ 0 → ⊥) → reportNumber b room ≡ n
-  unfolding reportNumber firstOr
-  refused-number zero room e h = absurd (h refl)
-  refused-number (suc n) room e h = rw (sym e, firstOr)
+  unfolding reportNumber
+  refused-number n room e h = first-refused (refusal b) n _ e h
 
   pub refused-answer : (n room : ℕ) → n ≡ refusal b → (n ≡ 0 → ⊥) → n ≡ reportAnswer b room
-  unfolding reportAnswer firstOr
-  refused-answer zero room e h = absurd (h refl)
-  refused-answer (suc n) room e h = sym (rw (refused-number (suc n) room e h, firstOr))
+  unfolding reportAnswer
+  refused-answer n room e h = sym (first-refused (reportNumber b room) n _ (sym (refused-number n room e h)) h)
 
   pub refused-after : (n : ℕ) (space : List ℕ) → n ≡ refusal b → (n ≡ 0 → ⊥) → space ≡ reportAfter b space
   unfolding reportAfter written

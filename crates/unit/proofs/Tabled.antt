@@ -16,6 +16,7 @@ use Rattle.rules.specs.Services.{written, roomNumber, rowsNumber, rowsAnswer, r
 use Rattle.rules.proofs.Kept.{accepted-good}
 use Rattle.figures.specs.Figures.{ProvidersOf}
 use Rattle.figures.proofs.Owners.{many}
+use Rattle.unit.proofs.Refused.{first-refused}
 
 module _ (b : List ℕ) (table : List Row) where
   abbrev answer : List Row
@@ -35,9 +36,8 @@ module _ (b : List ℕ) (table : List Row) where
   none (suc n) is some = (answered (suc n) 0 is (simp (ne-eqb (suc n) 0 some)), sym (rw (is, written)))
 
   refused-number : (n : ℕ) → n ≡ refusal b → (n ≡ 0 → ⊥) → rowsNumber b entries ≡ n
-  unfolding rowsNumber firstOr
-  refused-number zero e some = absurd (some refl)
-  refused-number (suc n) e some = rw (sym e, firstOr)
+  unfolding rowsNumber
+  refused-number n e some = first-refused (refusal b) n _ e some
 
   pub refused : (n : ℕ) → n ≡ refusal b → (n ≡ 0 → ⊥) → (_≡_ {A = RowsAnswer} (record { number = n; count = 0 }) (rowsAnswer b entries)) × (table ≡ rowsAfter b table)
   refused n e some = none n (refused-number n e some) some
