@@ -12,54 +12,31 @@ extern "C" {
     pub fn settlement_report(file: *const u8, file_len: usize, space: *mut u8, len: usize) -> u64;
 }
 
-/// The unit's algorithm in Rust.
-///
-/// # Safety
-/// The pointers are to that many bytes.
-#[no_mangle]
-#[inline(never)]
-pub unsafe extern "C" fn days_report(
-    file: *const u8,
-    file_len: usize,
-    space: *mut u8,
-    space_len: usize,
-) -> u64 {
-    let file = std::slice::from_raw_parts(file, file_len);
-    days::report(file, std::slice::from_raw_parts_mut(space, space_len))
+/// A report service in Rust under a name that callgrind can tell apart: it takes
+/// slices, and is called as the unit's is.
+macro_rules! service {
+    ($name:ident, $report:expr) => {
+        /// # Safety
+        /// The pointers are to that many bytes.
+        #[no_mangle]
+        #[inline(never)]
+        pub unsafe extern "C" fn $name(
+            file: *const u8,
+            file_len: usize,
+            space: *mut u8,
+            space_len: usize,
+        ) -> u64 {
+            let file = std::slice::from_raw_parts(file, file_len);
+            let space = std::slice::from_raw_parts_mut(space, space_len);
+            $report(file, space) as u64
+        }
+    };
 }
 
-/// Another algorithm in Rust.
-///
-/// # Safety
-/// The pointers are to that many bytes.
-#[no_mangle]
-#[inline(never)]
-pub unsafe extern "C" fn spans_report(
-    file: *const u8,
-    file_len: usize,
-    space: *mut u8,
-    space_len: usize,
-) -> u64 {
-    let file = std::slice::from_raw_parts(file, file_len);
-    spans::report(file, std::slice::from_raw_parts_mut(space, space_len))
-}
-
-/// The second implementation's.
-///
-/// # Safety
-/// The pointers are to that many bytes.
-#[no_mangle]
-#[inline(never)]
-pub unsafe extern "C" fn second_report(
-    file: *const u8,
-    file_len: usize,
-    space: *mut u8,
-    space_len: usize,
-) -> u64 {
-    let file = std::slice::from_raw_parts(file, file_len);
-    let space = std::slice::from_raw_parts_mut(space, space_len);
-    reference::services::report(file, space) as u64
-}
+// The unit's algorithm, another one, and the second implementation.
+service!(days_report, days::report);
+service!(spans_report, spans::report);
+service!(second_report, reference::services::report);
 
 pub const SERVICES: [(&str, Service); 4] = [
     ("unit", settlement_report),
