@@ -1,6 +1,7 @@
-// The charged days of a supply point: those of the settlement year from its connection day, before its disconnection day.
+// The charged days of a supply point: those of the settlement year from its connection day, before its disconnection day. They are numbered from
+// 0 on; the number of a day is its entry.
 ghost use mathlib.Core.Path.{_≡_};
-ghost use Prim.Native.Nat.{_≤_};
+ghost use Prim.Native.Nat.{_-_, _≤_, min};
 ghost use Rattle.rules.specs.File.{Tariff, Supply};
 ghost use Rattle.rules.specs.Charges.{chargedFrom, chargedCount};
 ghost use Rattle.charged.specs.Charged.{ChargedOf};
@@ -28,4 +29,15 @@ pub fn charged_days(year: u64, connected: u64, disconnected: u64) -> Charged
         from: Day(from),
         count: Days(past(least(end.0, disconnected), from)),
     }
+}
+
+// The entry of a day among so many from `start` on: 0 before the first, and their count after the last.
+pub fn entry(count: usize, start: u64, day: u64) -> usize
+    ensures { λ r. ⌜ r ≡ min (day - start) count ⌝ }
+{
+    if day <= start {
+        return 0;
+    }
+    let i = day - start;
+    if i < count as u64 { i as usize } else { count }
 }

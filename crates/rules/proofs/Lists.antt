@@ -132,3 +132,12 @@ module _ {A : Type 0} (key : A → ℕ) (x : ℕ) where
             let above = later-keys (key a) records (all-all {Q = λ c. key a < key c} (λ c h. omega arith) records (keys-from (suc (key b)) records (up .1))) (l .greatest .1) in
             simp (le-leb (key b) x (omega (arith, l .reached))) (latest-none (value b) records above ∙ ap value (sym e))
         go (inr m) later = later m
+
+    -- while the next record is still ahead, what is in force stays; from its day on, it is in force itself
+    pub latest-ahead : (before : B) (low : ℕ) (a : A) (records : List A) → Ascending low (map key (a ∷ records)) → x < key a → latest key value before (a ∷ records) x ≡ before
+    latest-ahead before low a records up h =
+        latest-none before (a ∷ records) (h, all-all {Q = λ b. x < key b} (λ b k. omega arith) records (keys-from (suc (key a)) records (up .1)))
+
+    pub latest-here : (before : B) (a : A) (records : List A) → key a ≤ x → latest key value before (a ∷ records) x ≡ latest key value (value a) records x
+    unfolding latest
+    latest-here before a records h = simp (le-leb (key a) x h)
