@@ -3,3 +3,4 @@ pub mod Parts
 pub mod Point
 pub mod Bounds
 pub mod Rows
+pub mod Filling
