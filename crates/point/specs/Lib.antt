@@ -1,2 +1,2 @@
 pub mod Standing
-pub mod Sheets
+pub mod Filled
