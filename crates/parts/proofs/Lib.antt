@@ -1,0 +1,4 @@
+pub mod Parts
+pub mod Sheets
+pub mod Runs
+pub mod Taking
