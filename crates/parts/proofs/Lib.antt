@@ -1,1 +1,4 @@
-pub mod Figures
+pub mod Parts
+pub mod Sheets
+pub mod Runs
+pub mod Taking
