@@ -1,10 +1,11 @@
 -- Which record is in force, by the order of days and sizes: of the transfers, conditions and bands of an accepted file. Assumes nothing.
-use Prim.Native.Nat.{ℕ, _≤_, _<_}
-use mathlib.Core.Path.{_≡_}
+use Prim.Native.Nat.{ℕ, _≤_, _<_, zero-le}
+use mathlib.Core.Path.{_≡_, sym, subst}
 use mathlib.Core.Logic.{⊎-elim}
 use mathlib.Core.List.{List, [], _∷_}
 use native.Mathlib.Omega.{arith}
 use borrow.Author.Tests.{ne-eqb}
+use lib.Dec.{lit<}
 use Rattle.rules.specs.declared.Band.{Band}
 use Rattle.rules.specs.declared.Transfer.{Transfer}
 use Rattle.rules.specs.declared.Condition.{Condition}
@@ -12,7 +13,7 @@ use Rattle.rules.specs.Lists.{All, IsLatest}
 use Rattle.rules.specs.File.{Tariff, Supply, Point, decode}
 use Rattle.rules.specs.Charges.{noCondition, conditionOn, firstBand, bandFor}
 use Rattle.rules.specs.Settlement.{providerOn}
-use Rattle.rules.specs.Good.{GoodTransfer, FirstBy, GoodPoint, Good}
+use Rattle.rules.specs.Good.{GoodTransfer, GoodCondition, FirstBy, GoodPoint, Good}
 use Rattle.rules.specs.Promises.{DaysOwned}
 use Rattle.rules.proofs.Lists.{all-in, latest-is, latest-none, latest-or-none}
 
@@ -46,6 +47,11 @@ condition-holds service point g d =
       latest = latest-is (λ c. c .day) d (λ c. c) noCondition 0 cs (g .conditionDays);
       first = latest-none (λ c. c .day) d (λ c. c) noCondition cs;
     }
+
+-- no condition is a sound one
+pub good-none : {c : Condition} → c ≡ noCondition → GoodCondition c
+unfolding noCondition
+good-none e = subst GoodCondition (sym e) (record { day = lit< tt; discounts = zero-le; rateable = zero-le })
 
 -- BANDS: the largest listed size not above a tariff size serves; below the first, the first
 pub record BandServes (bands : List Band) (size : ℕ) : Type 0 where
