@@ -1,5 +1,5 @@
 -- The providers of a point's days, put into a list run by run. Assumes nothing.
-use Prim.Native.Nat.{ℕ, zero, suc, _+_, _-_, _≤_, _<_}
+use Prim.Native.Nat.{ℕ, zero, suc, _+_, _-_, _≤_, _<_, min}
 use mathlib.Core.Path.{_≡_, refl, ap, ap₂, sym, _∙_, subst}
 use mathlib.Core.Logic.{⊎-elim}
 use mathlib.Core.List.{List, [], _∷_}
@@ -7,11 +7,13 @@ use native.Mathlib.Omega.{arith}
 use native.Mathlib.Decide.{decLt}
 use borrow.Author.Tests.{lt-ltb, le-ltb, eq-eqb, ne-eqb}
 use Rattle.rules.specs.Lists.{insert}
-use Rattle.rules.specs.File.{Point}
+use Rattle.rules.specs.declared.Transfer.{Transfer}
+use Rattle.rules.specs.File.{Point, transferAt, afterTransfer, transfers}
 use Rattle.rules.specs.Settlement.{providerOn, insertDays}
 use Rattle.rules.proofs.Lists.{three}
 use Rattle.providers.specs.Listed.{Lent, Holds, With, insertRun}
-use Rattle.providers.proofs.Runs.{Run}
+use Rattle.providers.specs.Runs.{SoundTransfers}
+use Rattle.providers.proofs.Runs.{Run, point-run, ownerBy, reached, RunsLeft, runs-begin, none-reached, run-from, run-owner, runs-turn, runs-end}
 
 -- who is there already is not put in again
 pub insert-again : (p : ℕ) (xs : List ℕ) → insert p (insert p xs) ≡ insert p xs
@@ -46,13 +48,40 @@ module _ (point : Point) (start : ℕ) where
           rw (lt-ltb from to l) (ap (λ k. insertDays point start k ps) size ∙ some-days from m p (λ i a b. run .same i a (omega (arith, size))) ps)
       go (no l) = rw (le-ltb from to (omega arith)) (ap (λ k. insertDays point start k ps) {x = to} {y = from} (omega (arith, run .forwards)))
 
-  module _ {list : List ℕ} {count : ℕ} where
-    pub no-days : Lent list count → With (insertDays point start 0) list count list count
-    unfolding insertDays
-    no-days lent = record { lent = lent; holds = λ ps h. h }
+-- THE LOOP over a point's transfers: the days of the runs that were passed are put in
+module _ (file : List ℕ) (count at start n : ℕ) where
+  pub record Putting (before : List ℕ) (held : ℕ) (list : List ℕ) (listed left here : ℕ) : Type 0 where
+    pub runs : RunsLeft file start n (ownerBy (transfers file count at) start) left here
+    pub lent : Lent list listed
+    pub put : (point : Point) → point .transfers ≡ transfers file count at → With (insertDays point start (reached file start n left here)) before held list listed
 
-    -- a run more, whose provider is put in once
-    pub run-put : {n from to p : ℕ} {now out : List ℕ} {listed more : ℕ} → With (insertDays point start from) list count now listed →
-        Run (λ i. providerOn point (start + i)) n from to p → With (insertRun p from to) now listed out more → With (insertDays point start to) list count out more
-    run-put {out = out} {more = more} before run one =
-        record { lent = one .lent; holds = λ ps h. subst (Holds out more) (sym (run-days run ps)) (one .holds _ (before .holds ps h)) }
+  pub putting-begin : {list : List ℕ} {listed : ℕ} → SoundTransfers file count at start → Lent list listed → Putting list listed list listed count at
+  unfolding insertDays
+  putting-begin {list} {listed} sound lent =
+      record {
+        runs = runs-begin file start n sound;
+        lent = lent;
+        put = λ point e. record { lent = lent; holds = λ ps h. rw (none-reached file start n sound) h };
+      }
+
+  module _ {before list : List ℕ} {held listed left here : ℕ} (u : Putting before held list listed left here) where
+    pub putting-turn : {next from to more : ℕ} {t : Transfer} {out : List ℕ} → 0 < left → (t ≡ transferAt file here) × (next ≡ afterTransfer here) →
+        from ≡ min (t .day - start) n → to ≡ reached file start n (left - 1) next → With (insertRun (t .provider) from to) list listed out more →
+        Putting before held out more (left - 1) next
+    putting-turn {next} {from} {to} {more} {t} {out} h e f g one =
+        let begins = run-from file start n left here h e f in
+        record {
+          runs = runs-turn file start n (u .runs) h e;
+          lent = one .lent;
+          put = λ point same.
+              let run = point-run point start same (run-owner file start n (u .runs) h e) in
+              record {
+                lent = one .lent;
+                holds = λ ps q.
+                    subst (Holds out more) (ap₂ (λ a b. insertRun (t .provider) a b (insertDays point start (reached file start n left here) ps)) begins g ∙ sym (run-days point start run ps))
+                    (one .holds _ (u .put point same .holds ps q));
+              };
+        }
+
+    pub putting-end : left ≤ 0 → (point : Point) → point .transfers ≡ transfers file count at → With (insertDays point start n) before held list listed
+    putting-end h point same = rw (sym (runs-end file start n left here h)) at (u .put point same)

@@ -21,9 +21,9 @@ use Rattle.providers.specs.declared.Listed.{Listed}
 use Rattle.providers.specs.Listed.{InArray, Stands, Lent, Holds, With, pointProviders, WithPoint}
 use Rattle.providers.specs.Runs.{SoundTransfers}
 
-first-by-later : {day later : ℕ} (ts : List Transfer) → FirstBy day ts → day ≤ later → FirstBy later ts
-first-by-later [] h l = absurd h
-first-by-later (t ∷ ts) h l = omega arith
+first-by-later : {day later : ℕ} (ts : List Transfer) → day ≤ later → FirstBy day ts → FirstBy later ts
+first-by-later [] l h = absurd h
+first-by-later (t ∷ ts) l h = omega arith
 
 -- the first charged day is the connection day or comes after it
 connected-first : (tariff : Tariff) (supply : Supply) → supply .connected ≤ chargedFrom tariff supply
@@ -55,7 +55,7 @@ module _ (b : List ℕ) (at year : ℕ) {head : PointHead} {start : ℕ} (e : (h
       let same = point-transfers in
       record {
         ascend = rw same at (g .transferDays);
-        first = first-by-later _ (rw same at (g .firstTransfer)) connected-by;
+        first = first-by-later (transfers b (head .transfers) start) connected-by (rw same at (g .firstTransfer));
         ends = transfers-small b at e small;
       }
 

@@ -5,7 +5,8 @@ use mathlib.Core.List.{List, [], _∷_, map}
 use native.Mathlib.Omega.{arith}
 use Rattle.rules.specs.declared.Transfer.{Transfer}
 use Rattle.rules.specs.Lists.{Ascending, latest}
-use Rattle.rules.specs.File.{records, after, transferAt, afterTransfer, transfers, afterTransfers}
+use Rattle.rules.specs.Settlement.{providerOn}
+use Rattle.rules.specs.File.{Point, records, after, transferAt, afterTransfer, transfers, afterTransfers}
 use Rattle.rules.specs.Good.{FirstBy}
 use Rattle.rules.proofs.Lists.{latest-none, latest-here, latest-ahead}
 use Rattle.records.proofs.Positions.{forward}
@@ -54,6 +55,13 @@ pub record Run (owner : ℕ → ℕ) (n from to p : ℕ) : Type 0 where
   pub forwards : from ≤ to
   pub within : to ≤ n
   pub same : (i : ℕ) → from ≤ i → i < to → owner i ≡ p
+
+-- by a point's own transfers
+pub point-run : (point : Point) (start : ℕ) {ts : List Transfer} {n from to p : ℕ} → point .transfers ≡ ts → Run (ownerBy ts start) n from to p →
+    Run (λ i. providerOn point (start + i)) n from to p
+unfolding providerOn
+point-run point start e run =
+    record { forwards = run .forwards; within = run .within; same = λ i a b. ap (λ ts. ownerBy ts start i) e ∙ run .same i a b }
 
 -- THE LOOP: of n days from `start` on, those before the first transfer's entry are done, and the others have their owner by the transfers that are left
 module _ (file : List ℕ) (start n : ℕ) where
