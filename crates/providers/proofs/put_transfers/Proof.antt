@@ -5,12 +5,6 @@ use Rattle.providers.proofs.Runs.{transfer-small, next-small}
 use Rattle.providers.proofs.Days.{Putting, putting-begin, putting-turn, putting-end}
 use Rattle.providers.proofs.put_transfers.Statement.{statement}
 use Rattle.providers.proofs.put_transfers.Tie as tie
-use Rattle.providers.proofs.put_transfers.Reads as reads
-use Rattle.providers.proofs.put_transfers.Lts as lts
-use Rattle.charged.proofs.entry.Reads as entry-reads
-use Rattle.providers.proofs.put_run.Reads as put-run-reads
-use Rattle.providers.proofs.run_until.Reads as run-until-reads
-use Rattle.records.proofs.transfer.Reads as transfer-reads
 
 abbrev Inv-loop : tie.InvT-loop
 Inv-loop file transfers start n list₀ count listed₀ next₀ left₀ list listed next left = Putting file transfers (next₀ .at) start n list₀ count list listed left (next .at)
@@ -18,43 +12,33 @@ Inv-loop file transfers start n list₀ count listed₀ next₀ left₀ list lis
 abbrev μ-loop : tie.MeasureT-loop
 μ-loop file transfers start n list₀ count listed₀ next₀ left₀ list listed next left = left
 
--- src/lib.rt:128:5
 loop-holds : tie.Need-loop-holds Inv-loop μ-loop
 loop-holds c = putting-begin _ _ _ _ _ (c .before .before .pre .0) (c .before .before .pre .1)
 
--- src/lib.rt:129:9
 sub-left : tie.Need-sub-left Inv-loop μ-loop
 sub-left c = search needs
 
--- src/lib.rt:130:13
 transfer-requires : tie.Need-transfer-requires Inv-loop μ-loop
 transfer-requires c κs = transfer-small _ _ _ (c .before .loop .inv .runs)
 
--- src/lib.rt:132:13
 entry-requires : tie.Need-entry-requires Inv-loop μ-loop
 entry-requires c κs = search needs
 
--- src/lib.rt:133:13
 run-until-requires : tie.Need-run-until-requires Inv-loop μ-loop
 run-until-requires c κs = next-small _ _ _ (c .before .before .before .before .loop .inv .runs) (c .before .before .before .loop-test .taken) (c .before .before .transfer .ensures)
 
--- src/lib.rt:134:13
 put-run-requires : tie.Need-put-run-requires Inv-loop μ-loop
 put-run-requires c κs = c .before .before .before .before .before .before .loop .inv .lent
 
--- src/lib.rt:128:5
 loop-less : tie.Need-loop-less Inv-loop μ-loop
 loop-less c = search needs
 
--- src/lib.rt:128:5
 loop-again : tie.Need-loop-again Inv-loop μ-loop
 loop-again c = putting-turn _ _ _ _ _ (c .before .before .before .before .before .before .before .before .before .before .loop .inv) (c .before .before .before .before .before .before .before .before .before .loop-test .taken) (c .before .before .before .before .before .before .before .before .transfer .ensures) (c .before .before .before .before .before .before .entry .ensures) (c .before .before .before .before .before .run-until .ensures) (c .before .before .before .put-run .ensures)
 
--- src/lib.rt:113:1
 same-length : tie.Need-same-length Inv-loop μ-loop
 same-length c = omega (arith, c .before .loop .inv .lent .long, c .before .before .before .before .pre .1 .long)
 
--- src/lib.rt:113:1
 returns : tie.Need-returns Inv-loop μ-loop
 returns c = putting-end _ _ _ _ _ (c .before .loop .inv) (omega arith)
 

@@ -1,13 +1,10 @@
 -- `providers::shift_up` meets its contract: the numbers from j on are one place up. Assumes nothing.
-use Prim.Native.Nat.{_-_}
 use mathlib.Core.Path.{refl}
 use borrow.Author.Needs.{needs}
 use native.Mathlib.Omega.{arith}
 use Rattle.providers.proofs.Shift.{Shifting, shift-one}
 use Rattle.providers.proofs.shift_up.Statement.{statement}
 use Rattle.providers.proofs.shift_up.Tie as tie
-use Rattle.providers.proofs.shift_up.Reads as reads
-use Rattle.providers.proofs.shift_up.Lts as lts
 
 abbrev Inv-loop : tie.InvT-loop
 Inv-loop list₀ at count j₀ list j = Shifting list₀ list at j count
@@ -15,47 +12,36 @@ Inv-loop list₀ at count j₀ list j = Shifting list₀ list at j count
 abbrev μ-loop : tie.MeasureT-loop
 μ-loop list₀ at count j₀ list j = j
 
--- src/lib.rt:60:5
 loop-holds : tie.Need-loop-holds Inv-loop μ-loop
 loop-holds c = record { long = refl; from = search needs; to = search needs; low = λ k h. refl; high = λ k h l. absurd (omega arith) }
 
--- src/lib.rt:61:24
 sub-list : tie.Need-sub-list Inv-loop μ-loop
 sub-list c = search needs
 
--- src/lib.rt:61:19
 mul-list : tie.Need-mul-list Inv-loop μ-loop
 mul-list c = search needs
 
--- src/lib.rt:61:19
 slice-read-list : tie.Need-slice-read-list Inv-loop μ-loop
 slice-read-list c = search needs
 
--- src/lib.rt:61:9
 mul-list-2 : tie.Need-mul-list-2 Inv-loop μ-loop
 mul-list-2 c = search needs
 
--- src/lib.rt:61:9
 slice-write-list : tie.Need-slice-write-list Inv-loop μ-loop
 slice-write-list c = search needs
 
--- src/lib.rt:62:9
 sub-j : tie.Need-sub-j Inv-loop μ-loop
 sub-j c = search needs
 
--- src/lib.rt:60:5
 loop-less : tie.Need-loop-less Inv-loop μ-loop
 loop-less c = search needs
 
--- src/lib.rt:60:5
 loop-again : tie.Need-loop-again Inv-loop μ-loop
 loop-again c = shift-one _ _ _ _ _ (omega (arith, c .before .before .before .pre)) (search needs) (c .before .before .loop .inv)
 
--- src/lib.rt:55:1
 same-length : tie.Need-same-length Inv-loop μ-loop
 same-length c = search needs
 
--- src/lib.rt:55:1
 returns : tie.Need-returns Inv-loop μ-loop
 returns c = let s = c .before .loop .inv in record { long = s .long; low = λ k h. s .low k (omega arith); high = λ k h l. s .high k (omega arith) l }
 
