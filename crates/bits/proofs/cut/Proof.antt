@@ -1,0 +1,21 @@
+-- `cut` meets its contract. Assumes nothing.
+use borrow.Author.Needs.{needs}
+use lib.Pow.{pow-pos}
+use Rattle.bits.proofs.Fields.{one-shl}
+use Rattle.bits.proofs.cut.Statement.{statement}
+use Rattle.bits.proofs.cut.Tie as tie
+
+shr-result : tie.Need-shr-result
+shr-result c = search needs
+
+shl-result : tie.Need-shl-result
+shl-result c = search needs
+
+rem-result : tie.Need-rem-result
+rem-result c = rw (one-shl (c .args .width) (c .pre .0)) (pow-pos (c .args .width))
+
+returns : tie.Need-returns
+returns c = rw (one-shl (c .args .width) (c .pre .0))
+
+pub cut-spec : {M : Type 1} → statement M
+cut-spec = tie.close (tie.spec shr-result shl-result rem-result returns)
