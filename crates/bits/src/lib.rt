@@ -1,9 +1,10 @@
 // A bit cursor by value: fields are unsigned, bit-packed, most significant bit first.
 ghost use mathlib.Core.Path.{_≡_};
-ghost use Prim.Native.Nat.{_+_, _*_, _/_, _%_, _^_, _≤_, _<_};
+ghost use Prim.Native.Nat.{_+_, _*_, _≤_, _<_, _^_};
 ghost use lib.ListN.{length, getD};
 ghost use Rattle.rules.specs.Field.{field};
 ghost use Rattle.bits.specs.Took.{Took};
+ghost use Rattle.bits.specs.CutOut.{CutOut};
 
 // A position in a file, in bits.
 pub struct Cursor {
@@ -109,7 +110,7 @@ impl Cursor {
 // The field of a width in a group of fields that was taken as one, with `below` bits of the group after it.
 pub fn cut(group: u64, width: u32, below: u32) -> u64
     requires { ⌜ (width < 64) × (below < 64) ⌝ }
-    ensures { λ r. ⌜ r ≡ group / 2 ^ below % 2 ^ width ⌝ }
+    ensures { λ r. ⌜ CutOut group width below r ⌝ }
 {
     (group >> below) % (1u64 << width)
 }

@@ -15,7 +15,7 @@ rem-result : tie.Need-rem-result
 rem-result c = rw (one-shl (c .args .width) (c .pre .0)) (pow-pos (c .args .width))
 
 returns : tie.Need-returns
-returns c = rw (one-shl (c .args .width) (c .pre .0))
+returns c = record { is = rw (one-shl (c .args .width) (c .pre .0)) }
 
 pub cut-spec : {M : Type 1} → statement M
 cut-spec = tie.close (tie.spec shr-result shl-result rem-result returns)
