@@ -48,7 +48,7 @@ fn four_there(file: &[u8], i: usize) -> u64
     ((b0 * 256 + b1) * 256 + b2) * 256 + b3
 }
 
-// The eight bytes from an index on, all of which are there.
+// The eight bytes from an index on, all of which are there, as one number.
 fn eight_there(file: &[u8], i: usize) -> u64
     requires { ⌜ i + 8 ≤ length (now file) ⌝ }
     ensures { λ r. ⌜ r ≡ field (now (file .entry)) (i * 8) 64 ⌝ }
@@ -58,8 +58,8 @@ fn eight_there(file: &[u8], i: usize) -> u64
     high * 0x1_0000_0000 + low
 }
 
-// A count of bytes from an index on, each asked for by itself. Few of a file's bytes are read so, and as a function that calls itself it isn't
-// copied into its callers, which stay small.
+// Some bytes from an index on, each asked for by itself, as one number. It calls itself, so that the compiler keeps it apart: it serves the end
+// of a file alone, and what calls it stays small enough to be copied into every reader.
 fn last_bytes(file: &[u8], i: usize, count: usize) -> u64
     requires { ⌜ (count ≤ 8) × (i < 2 ^ 60) ⌝ }
     ensures { λ r. ⌜ r ≡ field (now (file .entry)) (i * 8) (count * 8) ⌝ }
@@ -83,8 +83,8 @@ fn eight_bytes(file: &[u8], i: usize) -> u64
 }
 
 impl Cursor {
-    // The field of a width at the cursor. Eight bytes hold the 57 bits there, wherever in the first of them these start. Bits past the end are 0,
-    // so that a record is read whole before its length is judged.
+    // The field of a width at the cursor. Eight bytes hold 57 bits, wherever in the first of them these start. Bits past the end are 0, so that
+    // a record is read whole before its length is judged. A field of no bits has a case of its own, since a number isn't shifted by all its 64.
     pub fn take(self, file: &[u8], width: u32) -> Taken
         requires { ⌜ (width ≤ 57) × (self .at + width < 2 ^ 62) ⌝ }
         ensures { λ r. ⌜ Took (now (file .entry)) (self .at) width (r .value) (r .next .at) ⌝ }
@@ -107,7 +107,7 @@ impl Cursor {
     }
 }
 
-// The field of a width in a group of fields that was taken as one, with `below` bits of the group after it.
+// The field of a width in a group of fields that was taken as one field, with `below` bits of the group after it.
 pub fn cut(group: u64, width: u32, below: u32) -> u64
     requires { ⌜ (width < 64) × (below < 64) ⌝ }
     ensures { λ r. ⌜ CutOut group width below r ⌝ }

@@ -66,9 +66,9 @@ point-taken {at = at} t1 t2 c1 c2 c3 c4 c5 =
     let s5 = cut-field (at + 75) t2 c5 (omega arith) (omega arith) in
     (cc, omega arith)
 
-pub transfer-taken : {b : List ℕ} {at day provider whole a1 : ℕ}
-    → Took b at 32 whole a1
-    → CutOut whole 16 16 day → CutOut whole 16 0 provider
+pub transfer-taken : {b : List ℕ} {at day provider dayAndProvider a1 : ℕ}
+    → Took b at 32 dayAndProvider a1
+    → CutOut dayAndProvider 16 16 day → CutOut dayAndProvider 16 0 provider
     → (_≡_ {A = Transfer} (record { day = day; provider = provider }) (transferAt b at)) × (a1 ≡ afterTransfer at)
 transfer-taken {at = at} t1 c1 c2 =
     let s1 = cut-field at t1 c1 (omega arith) (omega arith) in

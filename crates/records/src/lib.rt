@@ -52,8 +52,9 @@ pub struct TakenRead {
 }
 
 // THE READERS
-// A field alone wouldn't need a load of its own: a record is taken in groups of fields, each as wide as `take` serves or less, and the fields are
-// cut out of their group. `cut` has a field's width, as document 01 gives it, and how many bits of the group stand after the field.
+// Loads are most of what reading costs. So a record is taken in groups of fields that stand side by side, with one load for a group and not for
+// each field, and the fields are cut out of their group. `cut` is given a field's width, as document 01 has it, and how many bits of the group
+// stand after the field.
 
 // The header, which stands first.
 pub fn header(file: &[u8]) -> TakenHeader
@@ -124,12 +125,12 @@ pub fn transfer(file: &[u8], c: Cursor) -> TakenTransfer
     requires { ⌜ c .at < 2 ^ 32 ⌝ }
     ensures { λ r. ⌜ (r .value ≡ transferAt (now (file .entry)) (c .at)) × (r .next .at ≡ afterTransfer (c .at)) ⌝ }
 {
-    let whole = c.take(file, 32);
-    let next = whole.next;
+    let day_and_provider = c.take(file, 32);
+    let next = day_and_provider.next;
     TakenTransfer {
         value: Transfer {
-            day: cut(whole.value, 16, 16),
-            provider: cut(whole.value, 16, 0),
+            day: cut(day_and_provider.value, 16, 16),
+            provider: cut(day_and_provider.value, 16, 0),
         },
         next,
     }
