@@ -5,7 +5,7 @@ use mathlib.Core.List.{List}
 use native.Mathlib.Nat.{one-mul, mod-eq-of-lt, lt-of-lt-of-le}
 use native.Mathlib.Omega.{arith}
 use lib.ListN.{getD}
-use lib.Pow.{pow-lt, pow-mono, shr-shr}
+use lib.Pow.{pow-pos, pow-lt, pow-mono, shr-shr}
 use Rattle.rules.specs.Field.{field}
 use Rattle.rules.proofs.Fields.{field-lt, field-split, field-part}
 
@@ -61,6 +61,9 @@ field-eight b k p q =
 -- `1u64 << w`
 pub one-shl : (w : ℕ) → w < 64 → 1 * 2 ^ w % 2 ^ 64 ≡ 2 ^ w
 one-shl w h = rw one-mul (mod-eq-of-lt (pow-lt h))
+
+pub one-shl-pos : (w : ℕ) → w < 64 → 0 < 1 * 2 ^ w % 2 ^ 64
+one-shl-pos w h = rw (one-shl w h) (pow-pos w)
 
 -- a field of at most 57 bits, cut out of the eight bytes that hold it
 pub field-of-eight : (b : List ℕ) (at w : ℕ) {eight : ℕ} → w ≤ 57 → eight ≡ field b (at / 8 * 8) 64

@@ -1,7 +1,7 @@
 -- `cut` meets its contract. Assumes nothing.
+use native.Mathlib.Omega.{arith}
 use borrow.Author.Needs.{needs}
-use lib.Pow.{pow-pos}
-use Rattle.bits.proofs.Fields.{one-shl}
+use Rattle.bits.proofs.Fields.{one-shl, one-shl-pos}
 use Rattle.bits.proofs.cut.Statement.{statement}
 use Rattle.bits.proofs.cut.Tie as tie
 
@@ -12,7 +12,7 @@ shl-result : tie.Need-shl-result
 shl-result c = search needs
 
 rem-result : tie.Need-rem-result
-rem-result c = rw (one-shl (c .args .width) (c .pre .0)) (pow-pos (c .args .width))
+rem-result c = one-shl-pos _ (omega arith)
 
 returns : tie.Need-returns
 returns c = record { is = rw (one-shl (c .args .width) (c .pre .0)) }

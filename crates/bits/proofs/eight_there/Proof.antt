@@ -6,15 +6,6 @@ use borrow.Author.Needs.{needs}
 use Rattle.bits.proofs.eight_there.Statement.{statement}
 use Rattle.bits.proofs.eight_there.Tie as tie
 
-four-there-requires : tie.Need-four-there-requires
-four-there-requires c κs = search needs
-
-add-four-there : tie.Need-add-four-there
-add-four-there c = search needs
-
-four-there-requires-2 : tie.Need-four-there-requires-2
-four-there-requires-2 c κs = search needs
-
 mul-result : tie.Need-mul-result
 mul-result c = omega (arith, four-small _ _ (c .before .four-there .ensures))
 
@@ -27,12 +18,4 @@ returns c =
     field-eight (now (start .args .file)) (start .args .i) (c .before .four-there .ensures) (c .four-there2 .ensures)
 
 pub eight-there-spec : {M : Type 1} → statement M
-eight-there-spec =
-    tie.close
-    (tie.spec
-    four-there-requires
-    add-four-there
-    four-there-requires-2
-    mul-result
-    add-result
-    returns)
+eight-there-spec = tie.close (tie.spec (λ c κs. search needs) (λ c. search needs) (λ c κs. search needs) mul-result add-result returns)

@@ -3,8 +3,7 @@ use mathlib.Core.Path.{refl}
 use native.Mathlib.Omega.{arith}
 use borrow.Author.Needs.{needs}
 use denote.Ref.{now}
-use lib.Pow.{pow-pos}
-use Rattle.bits.proofs.Fields.{field-none, one-shl, field-of-eight}
+use Rattle.bits.proofs.Fields.{field-none, one-shl-pos, field-of-eight}
 use Rattle.bits.proofs.Cursor.take.Statement.{statement}
 use Rattle.bits.proofs.Cursor.take.Tie as tie
 
@@ -12,7 +11,7 @@ returns : tie.Need-returns
 returns c = record { is = field-none _ _ (c .if1 .taken); after = omega arith }
 
 rem-t13 : tie.Need-rem-t13
-rem-t13 c = let start = c .before .before .before in rw (one-shl (start .args .width) (omega arith)) (pow-pos (start .args .width))
+rem-t13 c = one-shl-pos _ (omega arith)
 
 returns-2 : tie.Need-returns-2
 returns-2 c =
