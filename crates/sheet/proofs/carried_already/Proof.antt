@@ -1,7 +1,6 @@
 -- `sheet::carried_already` meets its contract. Assumes nothing.
 use native.Mathlib.Omega.{arith}
 use Rattle.sheet.proofs.Growth.{carried-none}
-use borrow.Author.Needs.{needs}
 use Rattle.sheet.proofs.carried_already.Statement.{statement}
 use Rattle.sheet.proofs.carried_already.Tie as tie
 
