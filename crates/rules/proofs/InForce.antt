@@ -4,6 +4,7 @@ use mathlib.Core.Path.{_≡_, sym, subst}
 use mathlib.Core.Logic.{⊎-elim}
 use mathlib.Core.List.{List, [], _∷_}
 use native.Mathlib.Omega.{arith}
+use lib.Dec.{lit<}
 use borrow.Author.Tests.{ne-eqb}
 use lib.Dec.{lit<}
 use Rattle.rules.specs.declared.Band.{Band}
@@ -13,7 +14,11 @@ use Rattle.rules.specs.Lists.{All, IsLatest}
 use Rattle.rules.specs.File.{Tariff, Supply, Point, decode}
 use Rattle.rules.specs.Charges.{noCondition, conditionOn, firstBand, bandFor}
 use Rattle.rules.specs.Settlement.{providerOn}
+<<<<<<< HEAD
 use Rattle.rules.specs.Good.{GoodTransfer, GoodCondition, FirstBy, GoodPoint, Good}
+=======
+use Rattle.rules.specs.Good.{GoodTransfer, FirstBy, GoodCondition, GoodPoint, Good}
+>>>>>>> 00a92ee84cc7ed4dd03571ced45a987954adbde4
 use Rattle.rules.specs.Promises.{DaysOwned}
 use Rattle.rules.proofs.Lists.{all-in, latest-is, latest-none, latest-or-none}
 
@@ -35,6 +40,10 @@ owned tariff service point g d charged =
     }
 
 -- CONDITIONS hold from their day to the next record; before the first, all are 0
+pub good-none : {c : Condition} → c ≡ noCondition → GoodCondition c
+unfolding noCondition
+good-none e = subst GoodCondition (sym e) (record { day = lit< tt; discounts = zero-le; rateable = zero-le })
+
 pub record ConditionHolds (supply : Supply) (d : ℕ) : Type 0 where
   pub latest : (c : Condition) → IsLatest (λ c. c .day) (supply .conditions) d c → conditionOn supply d ≡ c
   pub first : All (λ c. d < c .day) (supply .conditions) → conditionOn supply d ≡ noCondition
