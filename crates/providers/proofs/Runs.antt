@@ -10,6 +10,7 @@ use Rattle.rules.specs.File.{Point, records, after, transferAt, afterTransfer, 
 use Rattle.rules.specs.Good.{FirstBy}
 use Rattle.rules.proofs.Lists.{latest-none, latest-here, latest-ahead}
 use Rattle.records.proofs.Positions.{forward}
+use Rattle.records.proofs.Ahead.{read-one, read-past}
 use Rattle.providers.specs.Runs.{firstEntry, SoundTransfers}
 
 -- who has the day of entry i, from `start` on
@@ -82,15 +83,10 @@ module _ (file : List ℕ) (start n : ℕ) where
     pub none-reached : reached count at ≡ 0
     none-reached = first-zero n start (transfers file count at) (sound .first)
 
-  transfers-more : (left at : ℕ) → 0 < left → transfers file left at ≡ transferAt file at ∷ transfers file (left - 1) (afterTransfer at)
-  unfolding records
-  transfers-more zero at h = absurd (omega arith)
-  transfers-more (suc k) at h = ap (λ k. transferAt file at ∷ transfers file k (afterTransfer at)) {x = k} {y = suc k - 1} (omega arith)
-
   -- a transfer that was read, and those after it
   transfers-one : (left at : ℕ) {next : ℕ} {t : Transfer} → 0 < left → (t ≡ transferAt file at) × (next ≡ afterTransfer at) →
       transfers file left at ≡ t ∷ transfers file (left - 1) next
-  transfers-one left at h e = rw (e .0, e .1) (transfers-more left at h)
+  transfers-one left at h e = read-one (transferAt file) (λ at t. afterTransfer at) left at h e
 
   -- the days are done up to its entry, and all of them where no transfer is left
   pub run-from : (left at : ℕ) {next from : ℕ} {t : Transfer} → 0 < left → (t ≡ transferAt file at) × (next ≡ afterTransfer at) → from ≡ min (t .day - start) n →
@@ -115,8 +111,7 @@ module _ (file : List ℕ) (start n : ℕ) where
       one = transfers-one left at h e
 
       past : afterTransfers at (transfers file left at) ≡ afterTransfers next later
-      unfolding after
-      past = rw (e .1) (ap (afterTransfers at) (transfers-more left at h))
+      past = read-past (transferAt file) (λ at t. afterTransfer at) left at h e
 
       ascends : Ascending 0 (map (λ t. t .day) (t ∷ later))
       ascends = subst (λ ts. Ascending 0 (map (λ t. t .day) ts)) one (u .ascend)
