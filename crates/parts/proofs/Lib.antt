@@ -1,1 +1,5 @@
+pub mod Parts
+pub mod Sheets
+pub mod Runs
+pub mod Taking
 pub mod Figures

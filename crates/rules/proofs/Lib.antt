@@ -1,5 +1,6 @@
 pub mod Lists
 pub mod Shares
+pub mod Sums
 pub mod Rows
 pub mod Providers
 pub mod Fields

@@ -76,6 +76,21 @@ all-in P (x ∷ xs) all (inl e) = subst P (sym e) (all .0)
 all-in P (x ∷ xs) all (inr m) = all-in P xs (all .1) m
 
 -- THE RECORD IN FORCE
+-- what holds of every record, and of what comes before the first, holds of the one in force
+pub latest-all : {A : Type 0} (P : A → Type 0) (key : A → ℕ) (before : A) (xs : List A) (d : ℕ) → P before → All P xs → P (latest key (λ a. a) before xs d)
+unfolding latest
+latest-all P key before [] d b all = b
+latest-all P key before (x ∷ xs) d b all = latest-all P key (cond (leb (key x) d) x before) xs d (pick (leb (key x) d)) (all .1)
+  where
+    pick : (t : Bool) → P (cond t x before)
+    pick true = all .0
+    pick false = b
+
+-- a list that ascends from a number on ascends from any lower one on
+pub ascending-lower : {low least : ℕ} (xs : List ℕ) → least ≤ low → Ascending low xs → Ascending least xs
+ascending-lower [] h up = tt
+ascending-lower (x ∷ xs) h up = (omega (arith, up .0), up .1)
+
 module _ {A : Type 0} (key : A → ℕ) (x : ℕ) where
   -- every key of the list is at least `low`
   keys-from : (low : ℕ) (records : List A) → Ascending low (map key records) → All (λ a. low ≤ key a) records

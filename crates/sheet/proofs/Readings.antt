@@ -19,7 +19,7 @@ use Rattle.records.proofs.Positions.{length-records}
 use Rattle.sheet.specs.Sheets.{Grown, Room}
 use Rattle.sheet.specs.Meters.{during, carried, spread, Spreadable, meterOf}
 use Rattle.sheet.proofs.Growth.{Rest, rest-all, rest-room, rest-more, rest-none}
-use Rattle.sheet.proofs.Records.{Ahead, read-one, read-past, ahead-done}
+use Rattle.records.proofs.Ahead.{Ahead, read-one, read-past, ahead-done}
 
 -- AN ADVANCE
 dial-most : {m : MeterHead} → GoodMeterHead m → dialValues (m .digits) ≤ 100000000

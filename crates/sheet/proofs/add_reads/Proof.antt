@@ -5,7 +5,7 @@ use native.Mathlib.Nat.{mul-le-mul}
 use denote.Ref.{now}
 use Rattle.rules.specs.File.{readAt, afterRead, reads, afterReads}
 use Rattle.records.proofs.Positions.{forward}
-use Rattle.sheet.proofs.Records.{Ahead, read-past, ahead-within, ahead-one, ahead-turn}
+use Rattle.records.proofs.Ahead.{Ahead, read-past, ahead-within, ahead-one, ahead-turn}
 use Rattle.sheet.proofs.Readings.{spreadable, ReadsLeft, reads-room, reads-turn, no-reads, reads-begin, reads-done}
 use borrow.Author.Needs.{needs}
 use Rattle.sheet.proofs.add_reads.Statement.{statement}

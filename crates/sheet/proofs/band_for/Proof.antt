@@ -5,7 +5,7 @@ use denote.Ref.{now}
 use Rattle.rules.specs.Lists.{latest}
 use Rattle.rules.specs.File.{bandAt, afterBand, bands, afterBands}
 use Rattle.records.proofs.Positions.{forward}
-use Rattle.sheet.proofs.Records.{Ahead, read-past, ahead-within, ahead-turn}
+use Rattle.records.proofs.Ahead.{Ahead, read-past, ahead-within, ahead-turn}
 use Rattle.sheet.proofs.Readings.{BandsLeft, no-size, bands-turn, bands-done}
 use borrow.Author.Needs.{needs}
 use Rattle.sheet.proofs.band_for.Statement.{statement}

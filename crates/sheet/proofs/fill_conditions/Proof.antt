@@ -4,7 +4,8 @@ use mathlib.Core.List.{_∷_}
 use native.Mathlib.Omega.{arith}
 use Rattle.rules.specs.File.{conditionAt, afterCondition, conditions, afterConditions}
 use Rattle.sheet.specs.Conditions.{vacantSheet, disconnectedSheet, discountedSheet, propertySheet, roadsSheet, five}
-use Rattle.sheet.proofs.Records.{Ahead, ahead-within, ahead-turn, ahead-done, ConditionsLeft, conditions-begin, conditions-turn, conditions-end, five-long}
+use Rattle.records.proofs.Ahead.{Ahead, ahead-within, ahead-turn, ahead-done}
+use Rattle.sheet.proofs.Records.{ConditionsLeft, conditions-begin, conditions-turn, conditions-end, five-long}
 use borrow.Author.Needs.{needs}
 use Rattle.sheet.proofs.fill_conditions.Statement.{statement}
 use Rattle.sheet.proofs.fill_conditions.Tie as tie

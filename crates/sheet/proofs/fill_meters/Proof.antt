@@ -5,7 +5,7 @@ use denote.Ref.{now}
 use Rattle.rules.specs.File.{bands as bandsFrom, meterAt, afterMeter, meters, afterMeters}
 use Rattle.records.proofs.Positions.{length-records, meter-forward}
 use Rattle.sheet.specs.Meters.{litresSheet, annualSheet, allowanceSheet, thresholdSheet, four}
-use Rattle.sheet.proofs.Records.{Ahead, ahead-past, ahead-one, ahead-turn, ahead-done}
+use Rattle.records.proofs.Ahead.{Ahead, ahead-past, ahead-one, ahead-turn, ahead-done}
 use Rattle.sheet.proofs.MeterSheets.{MetersLeft, cleared, meters-begin, meters-room, meters-turn, meters-end}
 use borrow.Author.Needs.{needs}
 use Rattle.sheet.proofs.fill_meters.Statement.{statement}

@@ -3,7 +3,8 @@ use mathlib.Core.Path.{refl, _∙_}
 use native.Mathlib.Omega.{arith}
 use Rattle.rules.specs.File.{transferAt, afterTransfer, transfers, afterTransfers}
 use Rattle.sheet.proofs.Laws.{latest-begin, latest-turn, latest-end}
-use Rattle.sheet.proofs.Records.{Ahead, ahead-within, ahead-turn, ahead-done, ProvidersLeft}
+use Rattle.records.proofs.Ahead.{Ahead, ahead-within, ahead-turn, ahead-done}
+use Rattle.sheet.proofs.Records.{ProvidersLeft}
 use borrow.Author.Needs.{needs}
 use Rattle.sheet.proofs.fill_providers.Statement.{statement}
 use Rattle.sheet.proofs.fill_providers.Tie as tie
