@@ -1,17 +1,19 @@
--- The providers of a sheet's days, put into a list one after the other. Assumes nothing.
-use Prim.Native.Nat.{ℕ, zero, suc, _+_, _-_, _≤_, _<_}
+-- The providers of a point's days, put into a list run by run. Assumes nothing.
+use Prim.Native.Nat.{ℕ, zero, suc, _+_, _-_, _≤_, _<_, min}
 use mathlib.Core.Path.{_≡_, refl, ap, ap₂, sym, _∙_, subst}
 use mathlib.Core.Logic.{⊎-elim}
 use mathlib.Core.List.{List, [], _∷_}
 use native.Mathlib.Omega.{arith}
 use native.Mathlib.Decide.{decLt}
-use native.Mathlib.Numerals.{add-one}
-use lib.ListN.{getD}
 use borrow.Author.Tests.{lt-ltb, le-ltb, eq-eqb, ne-eqb}
 use Rattle.rules.specs.Lists.{insert}
+use Rattle.rules.specs.declared.Transfer.{Transfer}
+use Rattle.rules.specs.File.{Point, transferAt, afterTransfer, transfers}
+use Rattle.rules.specs.Settlement.{providerOn, insertDays}
 use Rattle.rules.proofs.Lists.{three}
-use Rattle.providers.specs.declared.Listed.{Listed}
-use Rattle.providers.specs.Listed.{InArray, Stands, With, SameOwner, insertSheet, WithSheet}
+use Rattle.providers.specs.Listed.{Lent, Holds, With, insertRun}
+use Rattle.providers.specs.Runs.{SoundTransfers}
+use Rattle.providers.proofs.Runs.{Run, point-run, ownerBy, reached, RunsLeft, runs-begin, none-reached, run-from, run-owner, runs-turn, runs-end}
 
 -- who is there already is not put in again
 pub insert-again : (p : ℕ) (xs : List ℕ) → insert p (insert p xs) ≡ insert p xs
@@ -23,47 +25,63 @@ insert-again p (x ∷ xs) =
     (λ g. simp (le-ltb p x (omega arith), ne-eqb p x (omega arith)) (ap (λ ys. x ∷ ys) (insert-again p xs))))
     (three p x)
 
-pub no-days : (sheet : List ℕ) (l : Listed) → InArray l → WithSheet sheet 0 l l
-unfolding insertSheet
-no-days sheet l a = record { array = a; stands = λ ps h. h }
+module _ (point : Point) (start : ℕ) where
+  -- the days of a run that has one
+  some-days : (from m p : ℕ) → ((i : ℕ) → from ≤ i → i < suc (m + from) → providerOn point (start + i) ≡ p) → (ps : List ℕ) →
+      insertDays point start (suc (m + from)) ps ≡ insert p (insertDays point start from ps)
+  unfolding insertDays
+  some-days from zero p same ps = ap₂ insert (same (0 + from) (omega arith) (omega arith)) (ap (λ k. insertDays point start k ps) {x = 0 + from} {y = from} (omega arith))
+  some-days from (suc m) p same ps =
+      let earlier = some-days from m p (λ i a b. same i a (omega arith)) ps in
+      let size : suc m + from ≡ suc (m + from) = omega arith in
+      ap₂ insert (same (suc m + from) (omega arith) (omega arith)) (ap (λ k. insertDays point start k ps) size ∙ earlier) ∙ insert-again p (insertDays point start from ps)
 
--- one day more, whose provider is put in
-pub day-more : {sheet : List ℕ} {i : ℕ} {l now more : Listed} → WithSheet sheet i l now → With (getD sheet i 0) now more → WithSheet sheet (i + 1) l more
-unfolding insertSheet
-day-more {sheet} {i} {more = more} w one =
-    record { array = one .array; stands = λ ps h. subst (λ n. Stands more (insertSheet sheet n ps)) (sym (add-one i)) (one .stands _ (w .stands ps h)) }
+  -- the days up to a run's end are those before it, and its provider once
+  run-days : {n from to p : ℕ} → Run (λ i. providerOn point (start + i)) n from to p → (ps : List ℕ) →
+      insertDays point start to ps ≡ insertRun p from to (insertDays point start from ps)
+  run-days {n} {from} {to} {p} run ps = go (decLt from to)
+    where
+      go : Dec (from < to) → insertDays point start to ps ≡ insertRun p from to (insertDays point start from ps)
+      go (yes l) =
+          let m = to - (from + 1) in
+          let size : to ≡ suc (m + from) = omega arith in
+          rw (lt-ltb from to l) (ap (λ k. insertDays point start k ps) size ∙ some-days from m p (λ i a b. run .same i a (omega (arith, size))) ps)
+      go (no l) = rw (le-ltb from to (omega arith)) (ap (λ k. insertDays point start k ps) {x = to} {y = from} (omega (arith, run .forwards)))
 
--- or is the day before's
-pub day-same : {sheet : List ℕ} (i : ℕ) {l now : Listed} → WithSheet sheet i l now → 0 < i → getD sheet i 0 ≡ getD sheet (i - 1) 0 → WithSheet sheet (i + 1) l now
-unfolding insertSheet
-day-same {sheet} zero w h e = absurd (omega arith)
-day-same {sheet} (suc i) {now = now} w h e =
-    record {
-      array = w .array;
-      stands = λ ps s.
-          let same : getD sheet (suc i) 0 ≡ getD sheet i 0 = e ∙ ap (λ k. getD sheet k 0) (omega arith) in
-          let again = ap (λ p. insert p (insertSheet sheet (suc i) ps)) same ∙ insert-again (getD sheet i 0) (insertSheet sheet i ps) in
-          subst (λ n. Stands now (insertSheet sheet n ps)) (sym (add-one (suc i))) (subst (Stands now) (sym again) (w .stands ps s));
-    }
+-- THE LOOP over a point's transfers: the days of the runs that were passed are put in
+module _ (file : List ℕ) (count at start n : ℕ) where
+  pub record Putting (before : List ℕ) (held : ℕ) (list : List ℕ) (listed left here : ℕ) : Type 0 where
+    pub runs : RunsLeft file start n (ownerBy (transfers file count at) start) left here
+    pub lent : Lent list listed
+    pub put : (point : Point) → point .transfers ≡ transfers file count at → With (insertDays point start (reached file start n left here)) before held list listed
 
--- further days of the same provider
-days-same : {sheet : List ℕ} (i m : ℕ) {l now : Listed} → WithSheet sheet (i + 1) l now → ((k : ℕ) → i ≤ k → k < i + 1 + m → getD sheet k 0 ≡ getD sheet i 0) → WithSheet sheet (i + 1 + m) l now
-days-same {sheet} i zero {l} {now} w same = subst (λ k. WithSheet sheet k l now) (omega arith) w
-days-same {sheet} i (suc m) {l} {now} w same =
-    let earlier = days-same i m w (λ k a b. same k a (omega arith)) in
-    let last = same (i + 1 + m) (omega arith) (omega arith) ∙ sym (same (i + 1 + m - 1) (omega arith) (omega arith)) in
-    subst (λ k. WithSheet sheet k l now) (omega arith) (day-same (i + 1 + m) earlier (omega arith) last)
+  pub putting-begin : {list : List ℕ} {listed : ℕ} → SoundTransfers file count at start → Lent list listed → Putting list listed list listed count at
+  unfolding insertDays
+  putting-begin {list} {listed} sound lent =
+      record {
+        runs = runs-begin file start n sound;
+        lent = lent;
+        put = λ point e. record { lent = lent; holds = λ ps h. rw (none-reached file start n sound) h };
+      }
 
--- a run of days, whose provider is put in once
-pub run-listed : {sheet : List ℕ} {i n j : ℕ} {l now more : Listed} → WithSheet sheet i l now → SameOwner sheet i n j → With (getD sheet i 0) now more → WithSheet sheet j l more
-run-listed {sheet} {i} {n} {j} {l} {now} {more} w run one =
-    let m = j - (i + 1) in
-    let end : i + 1 + m ≡ j = omega (arith, run .some) in
-    subst (λ k. WithSheet sheet k l more) end (days-same i m (day-more w one) (λ k a b. run .same k a (omega (arith, end))))
+  module _ {before list : List ℕ} {held listed left here : ℕ} (u : Putting before held list listed left here) where
+    pub putting-turn : {next from to more : ℕ} {t : Transfer} {out : List ℕ} → 0 < left → (t ≡ transferAt file here) × (next ≡ afterTransfer here) →
+        from ≡ min (t .day - start) n → to ≡ reached file start n (left - 1) next → With (insertRun (t .provider) from to) list listed out more →
+        Putting before held out more (left - 1) next
+    putting-turn {next} {from} {to} {more} {t} {out} h e f g one =
+        let begins = run-from file start n left here h e f in
+        record {
+          runs = runs-turn file start n (u .runs) h e;
+          lent = one .lent;
+          put = λ point same.
+              let run = point-run point start same (run-owner file start n (u .runs) h e) in
+              record {
+                lent = one .lent;
+                holds = λ ps q.
+                    subst (Holds out more) (ap₂ (λ a b. insertRun (t .provider) a b (insertDays point start (reached file start n left here) ps)) begins g ∙ sym (run-days point start run ps))
+                    (one .holds _ (u .put point same .holds ps q));
+              };
+        }
 
--- one day more of the same owner
-pub same-more : (owner : List ℕ) {from i p : ℕ} → ((k : ℕ) → from ≤ k → k < i → getD owner k 0 ≡ p) → getD owner i 0 ≡ p → (k : ℕ) → from ≤ k → k < i + 1 → getD owner k 0 ≡ p
-same-more owner {from} {i} {p} same e k a b = elim (decLt k i) [
-  | yes l ↦ same k a l
-  | no l ↦ ap (λ j. getD owner j 0) {x = k} {y = i} (omega arith) ∙ e
-]
+    pub putting-end : left ≤ 0 → (point : Point) → point .transfers ≡ transfers file count at → With (insertDays point start n) before held list listed
+    putting-end h point same = rw (sym (runs-end file start n left here h)) at (u .put point same)

@@ -1,19 +1,15 @@
 -- Where an ascending list takes a number, and the array that then holds it. Assumes nothing.
 use Prim.Native.Nat.{ℕ, zero, suc, _+_, _-_, _≤_, _<_}
-use mathlib.Core.Bool.{Bool, true, false}
 use mathlib.Core.Path.{_≡_, refl, ap, sym, _∙_}
 use mathlib.Core.Logic.{⊎-elim}
 use mathlib.Core.List.{List, [], _∷_, _++_}
 use native.Mathlib.Omega.{arith}
-use native.Mathlib.Numerals.{add-one}
-use native.Mathlib.Decide.{decLt}
-use lib.ListN.{length, getD, set, take, drop, length-set, length-take, length-drop, length-append, take-append-drop, List·getD-append}
+use lib.ListN.{length, getD, set, take, drop, length-set, length-drop, length-append, take-append-drop, List·getD-append}
 use lib.Seq.{drop-cons, length-take-le, getD-take, getD-drop, getD-set-same, getD-set-other, getD-append-add, getD-append-seam, ext-getD}
 use borrow.Author.Tests.{lt-ltb, le-ltb, eq-eqb, ne-eqb}
 use Rattle.rules.specs.Lists.{insert}
 use Rattle.rules.proofs.Lists.{three}
-use Rattle.providers.specs.declared.Listed.{Listed}
-use Rattle.providers.specs.Listed.{InArray, Stands, With, Placed, MovedUp}
+use Rattle.providers.specs.Listed.{Lent, Holds, With, Placed, MovedUp, insertRun}
 
 -- a number goes past those below it
 pub insert-past : (p r : ℕ) (xs : List ℕ) → ((k : ℕ) → k < r → getD xs k 0 < p) → r ≤ length xs → insert p xs ≡ take r xs ++ insert p (drop r xs)
@@ -112,38 +108,48 @@ module _ (list : List ℕ) (count p at : ℕ) (few : count ≤ length list) (pla
           (λ i h. getD-take (count + 1) (set out at p) i 0 (omega (arith, size)) ∙ (each i (omega (arith, size)) ∙ ap (λ ys. getD ys i 0) (sym put)))
 
 -- THE FOUR ANSWERS of a list with one number more
-module _ (l : Listed) (p : ℕ) (array : InArray l) where
+module _ (list : List ℕ) (count p : ℕ) (lent : Lent list count) where
   -- more than 64 stay more than 64
-  pub over-kept : l .over ≡ true → With p l l
-  over-kept e = record { array = array; stands = λ qs h. rw e (omega (arith, insert-longer p qs, rw e at h)) }
+  pub over-kept : count ≡ 65 → With (insert p) list count list 65
+  over-kept e =
+      record {
+        lent = record { few = omega arith; long = lent .long };
+        holds = λ qs h. let many : 64 < length qs = rw (lt-ltb 64 count (omega arith)) at h in omega (arith, insert-longer p qs);
+      }
 
-  module _ (e : l .over ≡ false) {at : ℕ} (placed : Placed (l .list) (l .count) p at) where
-    few : l .count ≤ length (l .list)
-    few = omega (arith, array .few, array .long)
+  module _ (few : count ≤ 64) {at : ℕ} (placed : Placed list count p at) where
+    within : count ≤ length list
+    within = omega (arith, lent .long)
 
     -- the list's own numbers
-    own : (qs : List ℕ) → Stands l qs → take (l .count) (l .list) ≡ qs
-    own qs h = rw e at h
+    own : (qs : List ℕ) → Holds list count qs → take count list ≡ qs
+    own qs h = rw (le-ltb 64 count few) at h
 
-    pub there-kept : at < l .count → getD (l .list) at 0 ≡ p → With p l l
+    pub there-kept : at < count → getD list at 0 ≡ p → With (insert p) list count list count
     there-kept h same =
         record {
-          array = array;
-          stands = λ qs s. rw e (sym (there (l .list) (l .count) p at few placed h same) ∙ ap (insert p) (own qs s));
+          lent = lent;
+          holds = λ qs s. rw (le-ltb 64 count few) (sym (there list count p at within placed h same) ∙ ap (insert p) (own qs s));
         }
 
-    module _ (absent : at < l .count → getD (l .list) at 0 ≡ p → ⊥) where
-      pub over-now : l .count ≡ 64 → With p l (record { list = l .list; count = l .count; over = true })
+    module _ (absent : at < count → getD list at 0 ≡ p → ⊥) where
+      pub over-now : count ≡ 64 → With (insert p) list count list 65
       over-now full =
           record {
-            array = record { few = array .few; long = array .long };
-            stands = λ qs s. omega (arith, longer (l .list) (l .count) p at few placed absent, ap (λ xs. length (insert p xs)) (own qs s));
+            lent = record { few = omega arith; long = lent .long };
+            holds = λ qs s. omega (arith, longer list count p at within placed absent, ap (λ xs. length (insert p xs)) (own qs s));
           }
 
-      pub one-more : l .count < 64 → (out : List ℕ) → MovedUp (l .list) out at (l .count) →
-          With p l (record { list = set out at p; count = l .count + 1; over = false })
+      pub one-more : count < 64 → (out : List ℕ) → MovedUp list out at count → With (insert p) list count (set out at p) (count + 1)
       one-more room out moved =
           record {
-            array = record { few = omega arith; long = simp length-set (moved .long ∙ array .long) };
-            stands = λ qs s. held (l .list) (l .count) p at few placed absent out moved (omega (arith, array .long)) ∙ ap (insert p) (own qs s);
+            lent = record { few = omega arith; long = simp length-set (moved .long ∙ lent .long) };
+            holds = λ qs s. rw (le-ltb 64 (count + 1) (omega arith)) (held list count p at within placed absent out moved (omega (arith, lent .long)) ∙ ap (insert p) (own qs s));
           }
+
+-- a run of days, whose provider is put in where it has one
+pub no-run : {list : List ℕ} {count : ℕ} (p from to : ℕ) → Lent list count → to ≤ from → With (insertRun p from to) list count list count
+no-run p from to lent h = record { lent = lent; holds = λ qs s. rw (le-ltb from to h) s }
+
+pub some-run : {list out : List ℕ} {count more : ℕ} (p from to : ℕ) → from < to → With (insert p) list count out more → With (insertRun p from to) list count out more
+some-run p from to h w = record { lent = w .lent; holds = λ qs s. rw (lt-ltb from to h) (w .holds qs s) }

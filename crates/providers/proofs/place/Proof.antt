@@ -8,10 +8,10 @@ use Rattle.providers.proofs.place.Statement.{statement}
 use Rattle.providers.proofs.place.Tie as tie
 
 abbrev Inv-loop : tie.InvT-loop
-Inv-loop count p list i₀ i = (i ≤ count) × ((k : ℕ) → k < i → getD list k 0 < p)
+Inv-loop list count p i₀ i = (i ≤ count) × ((k : ℕ) → k < i → getD list k 0 < p)
 
 abbrev μ-loop : tie.MeasureT-loop
-μ-loop count p list i₀ i = count - i
+μ-loop list count p i₀ i = count - i
 
 loop-holds : tie.Need-loop-holds Inv-loop μ-loop
 loop-holds c = search needs
@@ -19,11 +19,11 @@ loop-holds c = search needs
 mul-if1 : tie.Need-mul-if1 Inv-loop μ-loop
 mul-if1 c = search needs
 
-array-read-if1 : tie.Need-array-read-if1 Inv-loop μ-loop
-array-read-if1 c = search needs
+shared-slice-read-if1 : tie.Need-shared-slice-read-if1 Inv-loop μ-loop
+shared-slice-read-if1 c = search needs
 
 returns : tie.Need-returns Inv-loop μ-loop
-returns c = record { within = search needs; below = c .before .before .loop .inv .1; here = λ h. search needs }
+returns c = record { within = search needs; below = c .before .before .before .loop .inv .1; here = λ h. search needs }
 
 add-i : tie.Need-add-i Inv-loop μ-loop
 add-i c = search needs
@@ -32,7 +32,7 @@ loop-less : tie.Need-loop-less Inv-loop μ-loop
 loop-less c = search needs
 
 loop-again : tie.Need-loop-again Inv-loop μ-loop
-loop-again c = (search needs, below-more _ _ (c .before .before .loop .inv .1) (omega (arith, c .if1 .left)))
+loop-again c = (search needs, below-more _ _ (c .before .before .before .loop .inv .1) (omega (arith, c .if1 .left)))
 
 returns-2 : tie.Need-returns-2 Inv-loop μ-loop
 returns-2 c = record { within = search needs; below = c .before .loop .inv .1; here = λ h. absurd (omega arith) }
@@ -45,7 +45,7 @@ place-spec =
     μ-loop
     loop-holds
     mul-if1
-    array-read-if1
+    shared-slice-read-if1
     returns
     add-i
     loop-less

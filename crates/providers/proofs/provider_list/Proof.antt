@@ -1,37 +1,43 @@
 -- `providers::provider_list` meets its contract: the list so far, with the providers of the points that are left, has those of all. Assumes nothing.
-use Prim.Native.Nat.{_<_}
+use mathlib.Core.Path.{refl}
 use denote.Ref.{now}
 use native.Mathlib.Omega.{arith}
 use borrow.Author.Needs.{needs}
 use Rattle.rules.proofs.Accepted.{accepted}
-use Rattle.records.proofs.Walk.{left-within, point-within, points-start}
-use Rattle.providers.proofs.Points.{Listing, listing-start, listing-next, listing-done}
+use Rattle.records.proofs.Walk.{left-within, point-here, point-within, points-start}
+use Rattle.providers.proofs.Points.{Listing, listing-start, listing-next, listing-over, listing-done}
 use Rattle.providers.proofs.provider_list.Statement.{statement}
 use Rattle.providers.proofs.provider_list.Tie as tie
 
 abbrev Inv-loop : tie.InvT-loop
-Inv-loop file head bands at₀ listed₀ left₀ at listed left = Listing file (head .year) left at listed
+Inv-loop file head bands at₀ list₀ count₀ left₀ at list count left = Listing file (head .year) left at list count
 
 abbrev μ-loop : tie.MeasureT-loop
-μ-loop file head bands at₀ listed₀ left₀ at listed left = left
+μ-loop file head bands at₀ list₀ count₀ left₀ at list count left = left
 
 header-requires : tie.Need-header-requires Inv-loop μ-loop
 header-requires c κs = search needs
 
 mul-at : tie.Need-mul-at Inv-loop μ-loop
-mul-at c = omega (arith, left-within _ (points-start (now (c .before .before .before .args .file)) (accepted _ (c .before .before .before .pre)) (c .before .header .ensures)))
+mul-at c =
+    let s = c .before .before .before in
+    omega (arith, left-within _ (points-start (now (s .args .file)) (accepted _ (s .pre)) (c .before .header .ensures)))
 
 add-at : tie.Need-add-at Inv-loop μ-loop
-add-at c = omega (arith, left-within _ (points-start (now (c .before .before .before .before .args .file)) (accepted _ (c .before .before .before .before .pre)) (c .before .before .header .ensures)))
-
-none-requires : tie.Need-none-requires Inv-loop μ-loop
-none-requires c κs = search needs
+add-at c =
+    let s = c .before .before .before .before in
+    omega (arith, left-within _ (points-start (now (s .args .file)) (accepted _ (s .pre)) (c .before .before .header .ensures)))
 
 loop-holds : tie.Need-loop-holds Inv-loop μ-loop
-loop-holds c = listing-start (now (c .before .before .before .before .before .args .file)) (accepted _ (c .before .before .before .before .before .pre)) (c .before .before .before .header .ensures) (c .none .ensures)
+loop-holds c =
+    let s = c .before .before .before .before in
+    listing-start (now (s .args .file)) (accepted _ (s .pre)) (c .before .before .header .ensures) refl
 
-with-point-requires : tie.Need-with-point-requires Inv-loop μ-loop
-with-point-requires c κs = let s = c .before .loop .inv in (s .array, (s .from, s .to), point-within _ (s .points) (c .loop-test .taken))
+slice-aggregate-put-point : tie.Need-slice-aggregate-put-point Inv-loop μ-loop
+slice-aggregate-put-point c = search needs
+
+put-point-requires : tie.Need-put-point-requires Inv-loop μ-loop
+put-point-requires c κs = let s = c .before .before .loop .inv in ((point-here _ (s .points) (c .before .loop-test .taken), point-within _ (s .points) (c .before .loop-test .taken)), ((s .from, s .to), s .lent))
 
 sub-left : tie.Need-sub-left Inv-loop μ-loop
 sub-left c = search needs
@@ -40,10 +46,13 @@ loop-less : tie.Need-loop-less Inv-loop μ-loop
 loop-less c = search needs
 
 loop-again : tie.Need-loop-again Inv-loop μ-loop
-loop-again c = listing-next _ (c .before .before .before .loop .inv) (c .before .before .loop-test .taken) (c .before .with-point .ensures)
+loop-again c = listing-next _ (c .before .before .before .before .loop .inv) (c .before .before .before .loop-test .taken) (c .before .put-point .ensures)
 
 returns : tie.Need-returns Inv-loop μ-loop
-returns c = listing-done _ (c .before .loop .inv) (omega arith)
+returns c = listing-over _ (c .before .before .loop .inv) (omega arith) (c .if1 .taken)
+
+returns-2 : tie.Need-returns-2 Inv-loop μ-loop
+returns-2 c = listing-done _ (c .before .before .loop .inv) (omega arith) (c .if1 .left)
 
 pub provider-list-spec : {M : Type 1} → statement M
 provider-list-spec =
@@ -54,10 +63,11 @@ provider-list-spec =
     header-requires
     mul-at
     add-at
-    none-requires
     loop-holds
-    with-point-requires
+    slice-aggregate-put-point
+    put-point-requires
     sub-left
     loop-less
     loop-again
-    returns)
+    returns
+    returns-2)

@@ -1,0 +1,143 @@
+-- The loop over a point's transfers: each has the days from its own entry up to the next one's, the last up to the end. Assumes nothing.
+use Prim.Native.Nat.{ℕ, zero, suc, _+_, _-_, _^_, _≤_, _<_, min}
+use mathlib.Core.Path.{_≡_, refl, sym, ap, _∙_, subst}
+use mathlib.Core.List.{List, [], _∷_, map}
+use native.Mathlib.Omega.{arith}
+use Rattle.rules.specs.declared.Transfer.{Transfer}
+use Rattle.rules.specs.Lists.{Ascending, latest}
+use Rattle.rules.specs.Settlement.{providerOn}
+use Rattle.rules.specs.File.{Point, records, after, transferAt, afterTransfer, transfers, afterTransfers}
+use Rattle.rules.specs.Good.{FirstBy}
+use Rattle.rules.proofs.Lists.{latest-none, latest-here, latest-ahead}
+use Rattle.records.proofs.Positions.{forward}
+use Rattle.providers.specs.Runs.{firstEntry, SoundTransfers}
+
+-- who has the day of entry i, from `start` on
+abbrev pub ownerBy : List Transfer → ℕ → ℕ → ℕ
+ownerBy ts start i = latest (λ t. t .day) (λ t. t .provider) 0 ts (start + i)
+
+-- A LIST of transfers
+ascending-later : (low : ℕ) (xs : List ℕ) → Ascending low xs → Ascending 0 xs
+ascending-later low [] up = tt
+ascending-later low (x ∷ xs) up = (omega arith, up .1)
+
+pub first-within : (n start : ℕ) (ts : List Transfer) → firstEntry n start ts ≤ n
+unfolding firstEntry
+first-within n start [] = omega arith
+first-within n start (t ∷ ts) = omega arith
+
+-- one on or before the first day
+first-zero : (n start : ℕ) (ts : List Transfer) → FirstBy start ts → firstEntry n start ts ≡ 0
+unfolding firstEntry
+first-zero n start [] h = absurd h
+first-zero n start (t ∷ ts) h = omega arith
+
+module _ (n start : ℕ) (t : Transfer) where
+  first-later : (ts : List Transfer) → Ascending 0 (map (λ t. t .day) (t ∷ ts)) → firstEntry n start (t ∷ ts) ≤ firstEntry n start ts
+  unfolding firstEntry
+  first-later [] up = omega arith
+  first-later (u ∷ ts) up = omega (arith, up .1 .0)
+
+  owner-here : (ts : List Transfer) → Ascending 0 (map (λ t. t .day) (t ∷ ts)) → (i : ℕ) → firstEntry n start (t ∷ ts) ≤ i → i < firstEntry n start ts →
+      ownerBy (t ∷ ts) start i ≡ t .provider
+  unfolding firstEntry
+  owner-here [] up i a b = latest-here _ _ _ 0 t [] (omega arith) ∙ latest-none _ _ _ (t .provider) [] tt
+  owner-here (u ∷ ts) up i a b = latest-here _ _ _ 0 t (u ∷ ts) (omega arith) ∙ latest-ahead _ _ _ (t .provider) (suc (t .day)) u ts (up .1) (omega arith)
+
+  owner-later : (ts : List Transfer) → Ascending 0 (map (λ t. t .day) (t ∷ ts)) → (i : ℕ) → firstEntry n start ts ≤ i → i < n →
+      ownerBy (t ∷ ts) start i ≡ ownerBy ts start i
+  unfolding firstEntry
+  owner-later [] up i a b = absurd (omega arith)
+  owner-later (u ∷ ts) up i a b = latest-here _ _ _ 0 t (u ∷ ts) (omega (arith, up .1 .0)) ∙ (latest-here _ _ _ (t .provider) u ts (omega arith) ∙ sym (latest-here _ _ _ 0 u ts (omega arith)))
+
+-- the days of entries `from` .. `to` - 1 have one owner
+pub record Run (owner : ℕ → ℕ) (n from to p : ℕ) : Type 0 where
+  pub forwards : from ≤ to
+  pub within : to ≤ n
+  pub same : (i : ℕ) → from ≤ i → i < to → owner i ≡ p
+
+-- by a point's own transfers
+pub point-run : (point : Point) (start : ℕ) {ts : List Transfer} {n from to p : ℕ} → point .transfers ≡ ts → Run (ownerBy ts start) n from to p →
+    Run (λ i. providerOn point (start + i)) n from to p
+unfolding providerOn
+point-run point start e run =
+    record { forwards = run .forwards; within = run .within; same = λ i a b. ap (λ ts. ownerBy ts start i) e ∙ run .same i a b }
+
+-- THE LOOP: of n days from `start` on, those before the first transfer's entry are done, and the others have their owner by the transfers that are left
+module _ (file : List ℕ) (start n : ℕ) where
+  -- the entry of the first day that is not done
+  abbrev pub reached : ℕ → ℕ → ℕ
+  reached left at = firstEntry n start (transfers file left at)
+
+  pub record RunsLeft (owner : ℕ → ℕ) (left at : ℕ) : Type 0 where
+    pub ascend : Ascending 0 (map (λ t. t .day) (transfers file left at))
+    pub owners : (i : ℕ) → reached left at ≤ i → i < n → owner i ≡ ownerBy (transfers file left at) start i
+    pub ends : afterTransfers at (transfers file left at) < 2 ^ 32
+
+  -- at the start no day is done
+  module _ {count at : ℕ} (sound : SoundTransfers file count at start) where
+    pub runs-begin : RunsLeft (ownerBy (transfers file count at) start) count at
+    runs-begin = record { ascend = sound .ascend; owners = λ i a b. refl; ends = sound .ends }
+
+    pub none-reached : reached count at ≡ 0
+    none-reached = first-zero n start (transfers file count at) (sound .first)
+
+  transfers-more : (left at : ℕ) → 0 < left → transfers file left at ≡ transferAt file at ∷ transfers file (left - 1) (afterTransfer at)
+  unfolding records
+  transfers-more zero at h = absurd (omega arith)
+  transfers-more (suc k) at h = ap (λ k. transferAt file at ∷ transfers file k (afterTransfer at)) {x = k} {y = suc k - 1} (omega arith)
+
+  -- a transfer that was read, and those after it
+  transfers-one : (left at : ℕ) {next : ℕ} {t : Transfer} → 0 < left → (t ≡ transferAt file at) × (next ≡ afterTransfer at) →
+      transfers file left at ≡ t ∷ transfers file (left - 1) next
+  transfers-one left at h e = rw (e .0, e .1) (transfers-more left at h)
+
+  -- the days are done up to its entry, and all of them where no transfer is left
+  pub run-from : (left at : ℕ) {next from : ℕ} {t : Transfer} → 0 < left → (t ≡ transferAt file at) × (next ≡ afterTransfer at) → from ≡ min (t .day - start) n →
+      from ≡ reached left at
+  unfolding firstEntry
+  run-from left at h e f = f ∙ sym (ap (firstEntry n start) (transfers-one left at h e))
+
+  pub runs-end : (left at : ℕ) → left ≤ 0 → n ≡ reached left at
+  unfolding records firstEntry
+  runs-end left at h = ap (λ k. firstEntry n start (transfers file k at)) {x = 0} {y = left} (omega arith)
+
+  module _ {owner : ℕ → ℕ} {left at : ℕ} (u : RunsLeft owner left at) where
+    pub transfer-small : at < 2 ^ 32
+    transfer-small = omega (arith, u .ends, forward {next = λ at t. afterTransfer at} (λ at t. omega arith) at (transfers file left at))
+
+    -- one turn
+    module _ {next : ℕ} {t : Transfer} (h : 0 < left) (e : (t ≡ transferAt file at) × (next ≡ afterTransfer at)) where
+      abbrev later : List Transfer
+      later = transfers file (left - 1) next
+
+      one : transfers file left at ≡ t ∷ later
+      one = transfers-one left at h e
+
+      past : afterTransfers at (transfers file left at) ≡ afterTransfers next later
+      unfolding after
+      past = rw (e .1) (ap (afterTransfers at) (transfers-more left at h))
+
+      ascends : Ascending 0 (map (λ t. t .day) (t ∷ later))
+      ascends = subst (λ ts. Ascending 0 (map (λ t. t .day) ts)) one (u .ascend)
+
+      -- the cursor after the transfer
+      pub next-small : next < 2 ^ 32
+      next-small = omega (arith, past, u .ends, forward {next = λ at t. afterTransfer at} (λ at t. omega arith) next later)
+
+      -- the transfer's run goes up to the entry of the next one
+      pub run-owner : Run owner n (reached left at) (reached (left - 1) next) (t .provider)
+      run-owner =
+          record {
+            forwards = rw one (first-later n start t later ascends);
+            within = first-within n start later;
+            same = λ i a b. u .owners i a (omega (arith, first-within n start later)) ∙ (ap (λ ts. ownerBy ts start i) one ∙ owner-here n start t later ascends i (rw one at a) b);
+          }
+
+      pub runs-turn : RunsLeft owner (left - 1) next
+      runs-turn =
+          record {
+            ascend = ascending-later (suc (t .day)) (map (λ t. t .day) later) (ascends .1);
+            owners = λ i a b. u .owners i (omega (arith, run-owner .forwards)) b ∙ (ap (λ ts. ownerBy ts start i) one ∙ owner-later n start t later ascends i a b);
+            ends = omega (arith, past, u .ends);
+          }
