@@ -4,6 +4,7 @@ ghost use Prim.Native.Nat.{_+_, _*_, _≤_, _<_, _^_};
 ghost use lib.ListN.{length, getD};
 ghost use Rattle.rules.specs.Field.{field};
 ghost use Rattle.bits.specs.Took.{Took};
+ghost use Rattle.bits.specs.CutOut.{CutOut};
 
 // A position in a file, in bits.
 pub struct Cursor {
@@ -35,54 +36,68 @@ fn byte(file: &[u8], i: usize) -> u64
     }
 }
 
-// Five bytes as one number, the first the most significant.
-fn five(b0: u64, b1: u64, b2: u64, b3: u64, b4: u64) -> u64
-    requires { ⌜ (b0 < 256) × (b1 < 256) × (b2 < 256) × (b3 < 256) × (b4 < 256) ⌝ }
-    ensures { λ r. ⌜ r ≡ (((b0 * 256 + b1) * 256 + b2) * 256 + b3) * 256 + b4 ⌝ }
-{
-    let four = ((b0 * 256 + b1) * 256 + b2) * 256 + b3;
-    four * 256 + b4
-}
-
-// The five bytes from an index on, all of which are there. The compiler joins their loads, since none is asked for by itself.
-fn five_there(file: &[u8], i: usize) -> u64
-    requires { ⌜ i + 5 ≤ length (now file) ⌝ }
-    ensures { λ r. ⌜ r ≡ field (now (file .entry)) (i * 8) 40 ⌝ }
+// The four bytes from an index on, all of which are there, as one number. The compiler joins their loads, since none is asked for by itself.
+fn four_there(file: &[u8], i: usize) -> u64
+    requires { ⌜ i + 4 ≤ length (now file) ⌝ }
+    ensures { λ r. ⌜ r ≡ field (now (file .entry)) (i * 8) 32 ⌝ }
 {
     let b0 = byte_there(file, i);
     let b1 = byte_there(file, i + 1);
     let b2 = byte_there(file, i + 2);
     let b3 = byte_there(file, i + 3);
-    let b4 = byte_there(file, i + 4);
-    five(b0, b1, b2, b3, b4)
+    ((b0 * 256 + b1) * 256 + b2) * 256 + b3
 }
 
-// The five bytes from an index on, as one number.
-fn five_bytes(file: &[u8], i: usize) -> u64
-    requires { ⌜ i < 2 ^ 60 ⌝ }
-    ensures { λ r. ⌜ r ≡ field (now (file .entry)) (i * 8) 40 ⌝ }
+// The eight bytes from an index on, all of which are there, as one number.
+fn eight_there(file: &[u8], i: usize) -> u64
+    requires { ⌜ i + 8 ≤ length (now file) ⌝ }
+    ensures { λ r. ⌜ r ≡ field (now (file .entry)) (i * 8) 64 ⌝ }
 {
-    if i + 5 <= file.len() {
-        return five_there(file, i);
+    let high = four_there(file, i);
+    let low = four_there(file, i + 4);
+    high * 0x1_0000_0000 + low
+}
+
+// Some bytes from an index on, each asked for by itself, as one number. It calls itself, so that the compiler keeps it apart: it serves the end
+// of a file alone, and what calls it stays small enough to be copied into every reader.
+fn last_bytes(file: &[u8], i: usize, count: usize) -> u64
+    requires { ⌜ (count ≤ 8) × (i < 2 ^ 60) ⌝ }
+    ensures { λ r. ⌜ r ≡ field (now (file .entry)) (i * 8) (count * 8) ⌝ }
+{
+    if count == 0 {
+        return 0;
     }
-    let b0 = byte(file, i);
-    let b1 = byte(file, i + 1);
-    let b2 = byte(file, i + 2);
-    let b3 = byte(file, i + 3);
-    let b4 = byte(file, i + 4);
-    five(b0, b1, b2, b3, b4)
+    let before = count - 1;
+    last_bytes(file, i, before) * 256 + byte(file, i + before)
+}
+
+// The eight bytes from an index on, as one number.
+fn eight_bytes(file: &[u8], i: usize) -> u64
+    requires { ⌜ i < 2 ^ 60 ⌝ }
+    ensures { λ r. ⌜ r ≡ field (now (file .entry)) (i * 8) 64 ⌝ }
+{
+    if i + 8 <= file.len() {
+        return eight_there(file, i);
+    }
+    last_bytes(file, i, 8)
 }
 
 impl Cursor {
-    // The field of a width at the cursor. Five bytes hold it, wherever in the first of them it starts. Bits past the end are 0, so that a
-    // record is read whole before its length is judged.
+    // The field of a width at the cursor. Eight bytes hold 57 bits, wherever in the first of them these start. Bits past the end are 0, so that
+    // a record is read whole before its length is judged. A field of no bits has a case of its own, since a number isn't shifted by all its 64.
     pub fn take(self, file: &[u8], width: u32) -> Taken
-        requires { ⌜ (width ≤ 32) × (self .at + width < 2 ^ 62) ⌝ }
+        requires { ⌜ (width ≤ 57) × (self .at + width < 2 ^ 62) ⌝ }
         ensures { λ r. ⌜ Took (now (file .entry)) (self .at) width (r .value) (r .next .at) ⌝ }
     {
+        if width == 0 {
+            return Taken {
+                value: 0,
+                next: self,
+            };
+        }
         let at = self.at;
         let skip = (at % 8) as u32;
-        let high = five_bytes(file, at / 8) >> (40 - skip - width);
+        let high = eight_bytes(file, at / 8) >> (64 - skip - width);
         Taken {
             value: high % (1u64 << width),
             next: Cursor {
@@ -90,4 +105,12 @@ impl Cursor {
             },
         }
     }
+}
+
+// The field of a width in a group of fields that was taken as one field, with `below` bits of the group after it.
+pub fn cut(group: u64, width: u32, below: u32) -> u64
+    requires { ⌜ (width < 64) × (below < 64) ⌝ }
+    ensures { λ r. ⌜ CutOut group width below r ⌝ }
+{
+    (group >> below) % (1u64 << width)
 }

@@ -2,4 +2,3 @@ pub mod Parts
 pub mod Sheets
 pub mod Runs
 pub mod Taking
-pub mod Figures

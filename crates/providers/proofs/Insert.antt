@@ -110,12 +110,10 @@ module _ (list : List ℕ) (count p at : ℕ) (few : count ≤ length list) (pla
 -- THE FOUR ANSWERS of a list with one number more
 module _ (list : List ℕ) (count p : ℕ) (lent : Lent list count) where
   -- more than 64 stay more than 64
-  pub over-kept : count ≡ 65 → With (insert p) list count list 65
+  pub over-kept : count ≡ 65 → With (insert p) list count list count
   over-kept e =
-      record {
-        lent = record { few = omega arith; long = lent .long };
-        holds = λ qs h. let many : 64 < length qs = rw (lt-ltb 64 count (omega arith)) at h in omega (arith, insert-longer p qs);
-      }
+      let over = lt-ltb 64 count (omega arith) in
+      record { lent = lent; holds = λ qs h. rw over (omega (arith, insert-longer p qs, rw over at h)) }
 
   module _ (few : count ≤ 64) {at : ℕ} (placed : Placed list count p at) where
     within : count ≤ length list

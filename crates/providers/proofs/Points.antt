@@ -26,21 +26,34 @@ first-by-later [] l h = absurd h
 first-by-later (t ∷ ts) l h = omega arith
 
 -- the first charged day is the connection day or comes after it
-connected-first : (tariff : Tariff) (supply : Supply) → supply .connected ≤ chargedFrom tariff supply
+pub connected-first : (tariff : Tariff) (supply : Supply) → supply .connected ≤ chargedFrom tariff supply
 unfolding chargedFrom
 connected-first tariff supply = omega arith
 
+-- A POINT of an accepted file, whose record before its lists was read
+module _ (b : List ℕ) (at : ℕ) {head : PointHead} {start : ℕ} (e : (head ≡ pointHeadAt b at) × (start ≡ transfersFrom at)) where
+  pub point-transfers : pointAt b at .transfers ≡ transfers b (head .transfers) start
+  unfolding pointAt
+  point-transfers = sym (ap₂ (λ (p : PointHead) s. transfers b (p .transfers) s) (e .0) (e .1))
+
+  -- its transfers give the provider of each day from a day on that is not before its connection
+  pub transfers-sound : {service day : ℕ} → GoodPoint service (pointAt b at) → afterPoint at (pointAt b at) < 2 ^ 32 → pointAt b at .supply .connected ≤ day →
+      SoundTransfers b (head .transfers) start day
+  transfers-sound g small h =
+      let same = point-transfers in
+      record {
+        ascend = rw same at (g .transferDays);
+        first = first-by-later (transfers b (head .transfers) start) h (rw same at (g .firstTransfer));
+        ends = transfers-small b at e small;
+      }
+
+-- and its charged days
 module _ (b : List ℕ) (at year : ℕ) {head : PointHead} {start : ℕ} (e : (head ≡ pointHeadAt b at) × (start ≡ transfersFrom at)) {days : Charged}
     (charged : ChargedOf year (head .connected) (head .disconnected) days) where
   abbrev point : Point
   point = pointAt b at
 
-  -- the point's transfers, as they were read
-  pub point-transfers : point .transfers ≡ transfers b (head .transfers) start
-  unfolding pointAt
-  point-transfers = sym (ap₂ (λ (p : PointHead) s. transfers b (p .transfers) s) (e .0) (e .1))
-
-  -- its charged days, in a file of that year
+  -- in a file of that year
   charged-days : (tariff : Tariff) → tariff .year ≡ year → (days .from .0 ≡ chargedFrom tariff (point .supply)) × (days .count .0 ≡ chargedCount tariff (point .supply))
   unfolding pointAt
   charged-days tariff y = charged .days tariff (point .supply) y (ap (λ (p : PointHead). p .connected) (sym (e .0))) (ap (λ (p : PointHead). p .disconnected) (sym (e .0)))
@@ -51,13 +64,7 @@ module _ (b : List ℕ) (at year : ℕ) {head : PointHead} {start : ℕ} (e : (h
       omega (arith, charged-days tariff refl .0, connected-first tariff (point .supply))
 
   pub point-sound : {service : ℕ} → GoodPoint service point → afterPoint at point < 2 ^ 32 → SoundTransfers b (head .transfers) start (days .from .0)
-  point-sound g small =
-      let same = point-transfers in
-      record {
-        ascend = rw same at (g .transferDays);
-        first = first-by-later (transfers b (head .transfers) start) connected-by (rw same at (g .firstTransfer));
-        ends = transfers-small b at e small;
-      }
+  point-sound g small = transfers-sound b at e g small connected-by
 
   pub point-listed : {before after : List ℕ} {count more next : ℕ} →
       ((point : Point) → point .transfers ≡ transfers b (head .transfers) start → With (insertDays point (days .from .0) (days .count .0)) before count after more) →
@@ -66,7 +73,7 @@ module _ (b : List ℕ) (at year : ℕ) {head : PointHead} {start : ℕ} (e : (h
       record {
         with = λ tariff y.
             let d = charged-days tariff y in
-            let w = with point point-transfers in
+            let w = with point (point-transfers b at e) in
             record {
               lent = w .lent;
               holds = λ ps h. subst (Holds after more) (ap₂ (λ from n. insertDays point from n ps) (d .0) (d .1)) (w .holds ps h);

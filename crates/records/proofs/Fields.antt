@@ -1,10 +1,12 @@
 -- A record from what its fields are, on plain variables, where `cc` is quick: what the readers' proofs cite. Assumes nothing.
-use Prim.Native.Nat.{ℕ, _+_}
+use Prim.Native.Nat.{ℕ, _+_, _-_, _/_, _%_, _^_, _≤_}
 use mathlib.Core.Path.{_≡_, _∙_, ap}
 use mathlib.Core.List.{List}
 use native.Mathlib.Omega.{arith}
 use Rattle.bits.specs.Took.{Took}
+use Rattle.bits.specs.CutOut.{CutOut}
 use Rattle.rules.specs.Field.{field}
+use Rattle.rules.proofs.Fields.{field-part}
 use Rattle.rules.specs.declared.Header.{Header}
 use Rattle.rules.specs.declared.Band.{Band}
 use Rattle.rules.specs.declared.PointHead.{PointHead}
@@ -14,85 +16,98 @@ use Rattle.rules.specs.declared.MeterHead.{MeterHead}
 use Rattle.rules.specs.declared.Read.{Read}
 use Rattle.rules.specs.File.{headerAt, bandAt, pointHeadAt, transferAt, conditionAt, meterHeadAt, readAt, bandsAt, afterBand, transfersFrom, afterTransfer, afterCondition, readsFrom, afterRead}
 
--- a field taken d bits after a position, where the fields before it end
-record Stands (b : List ℕ) (at d width value next : ℕ) : Type 0 where
-  is : value ≡ field b (at + d) width
-  after : next ≡ at + (d + width)
+-- a field that is cut out of a group: it ends `below` bits before the group does
+cut-field : {b : List ℕ} {here wide group next width below value : ℕ} (at : ℕ) → Took b here wide group next → CutOut group width below value
+    → here ≤ at → at + width + below ≡ next → value ≡ field b at width
+cut-field {b} {here} {wide} {group} {next} {width} {below} at t p l e =
+    p .is ∙ ap (λ (g : ℕ). g / 2 ^ below % 2 ^ width) (t .is ∙ ap (λ (n : ℕ). field b here n) parts)
+    ∙ field-part b here (at - here) width below ∙ ap (λ (a : ℕ). field b a width) (omega arith)
+  where
+    parts : wide ≡ at - here + width + below
+    parts = omega (arith, t .after)
 
-then : {b : List ℕ} {at d here width value next : ℕ} → here ≡ at + d → Took b here width value next → Stands b at d width value next
-then {b} {at} {d} {here} {width} h t = record { is = t .is ∙ ap (λ (a : ℕ). field b a width) h; after = omega arith }
+pub header-taken : {b : List ℕ} {mark version service year bands points property roads capacity standard opening prices rates a1 a2 a3 : ℕ}
+    → Took b 0 45 opening a1 → Took b a1 28 prices a2 → Took b a2 34 rates a3
+    → CutOut opening 16 29 mark → CutOut opening 4 25 version → CutOut opening 1 24 service → CutOut opening 12 12 year → CutOut opening 5 7 bands → CutOut opening 7 0 points → CutOut prices 14 14 property → CutOut prices 14 0 roads → CutOut rates 17 17 capacity → CutOut rates 17 0 standard
+    → (_≡_ {A = Header} (record { mark = mark; version = version; service = service; year = year; bands = bands; points = points; property = property; roads = roads; capacity = capacity; standard = standard }) (headerAt b)) × (a3 ≡ bandsAt)
+header-taken t1 t2 t3 c1 c2 c3 c4 c5 c6 c7 c8 c9 c10 =
+    let s1 = cut-field 0 t1 c1 (omega arith) (omega arith) in
+    let s2 = cut-field 16 t1 c2 (omega arith) (omega arith) in
+    let s3 = cut-field 20 t1 c3 (omega arith) (omega arith) in
+    let s4 = cut-field 21 t1 c4 (omega arith) (omega arith) in
+    let s5 = cut-field 33 t1 c5 (omega arith) (omega arith) in
+    let s6 = cut-field 38 t1 c6 (omega arith) (omega arith) in
+    let s7 = cut-field 45 t2 c7 (omega arith) (omega arith) in
+    let s8 = cut-field 59 t2 c8 (omega arith) (omega arith) in
+    let s9 = cut-field 73 t3 c9 (omega arith) (omega arith) in
+    let s10 = cut-field 90 t3 c10 (omega arith) (omega arith) in
+    (cc, omega arith)
 
-pub header-taken : {b : List ℕ} {mark version service year bands points property roads capacity standard a1 a2 a3 a4 a5 a6 a7 a8 a9 a10 : ℕ}
-    → Took b 0 16 mark a1 → Took b a1 4 version a2 → Took b a2 1 service a3 → Took b a3 12 year a4 → Took b a4 5 bands a5 → Took b a5 7 points a6 → Took b a6 14 property a7 → Took b a7 14 roads a8 → Took b a8 17 capacity a9 → Took b a9 17 standard a10
-    → (_≡_ {A = Header} (record { mark = mark; version = version; service = service; year = year; bands = bands; points = points; property = property; roads = roads; capacity = capacity; standard = standard }) (headerAt b)) × (a10 ≡ bandsAt)
-header-taken t1 t2 t3 t4 t5 t6 t7 t8 t9 t10 =
-    let s2 = then {at = 0} {d = 16} (t1 .after) t2 in
-    let s3 = then {at = 0} {d = 20} (s2 .after) t3 in
-    let s4 = then {at = 0} {d = 21} (s3 .after) t4 in
-    let s5 = then {at = 0} {d = 33} (s4 .after) t5 in
-    let s6 = then {at = 0} {d = 38} (s5 .after) t6 in
-    let s7 = then {at = 0} {d = 45} (s6 .after) t7 in
-    let s8 = then {at = 0} {d = 59} (s7 .after) t8 in
-    let s9 = then {at = 0} {d = 73} (s8 .after) t9 in
-    let s10 = then {at = 0} {d = 90} (s9 .after) t10 in
-    (cc, s10 .after)
+pub band-taken : {b : List ℕ} {at size annual allowance threshold charge limits a1 a2 : ℕ}
+    → Took b at 46 charge a1 → Took b a1 44 limits a2
+    → CutOut charge 16 30 size → CutOut charge 30 0 annual → CutOut limits 20 24 allowance → CutOut limits 24 0 threshold
+    → (_≡_ {A = Band} (record { size = size; annual = annual; allowance = allowance; threshold = threshold }) (bandAt b at)) × (a2 ≡ afterBand at)
+band-taken {at = at} t1 t2 c1 c2 c3 c4 =
+    let s1 = cut-field at t1 c1 (omega arith) (omega arith) in
+    let s2 = cut-field (at + 16) t1 c2 (omega arith) (omega arith) in
+    let s3 = cut-field (at + 46) t2 c3 (omega arith) (omega arith) in
+    let s4 = cut-field (at + 66) t2 c4 (omega arith) (omega arith) in
+    (cc, omega arith)
 
-pub band-taken : {b : List ℕ} {at size annual allowance threshold a1 a2 a3 a4 : ℕ}
-    → Took b at 16 size a1 → Took b a1 30 annual a2 → Took b a2 20 allowance a3 → Took b a3 24 threshold a4
-    → (_≡_ {A = Band} (record { size = size; annual = annual; allowance = allowance; threshold = threshold }) (bandAt b at)) × (a4 ≡ afterBand at)
-band-taken t1 t2 t3 t4 =
-    let s2 = then (t1 .after) t2 in
-    let s3 = then (s2 .after) t3 in
-    let s4 = then (s3 .after) t4 in
-    (cc, s4 .after)
+pub point-taken : {b : List ℕ} {at number connected disconnected transfers conditions meters daysAndCounts a1 a2 : ℕ}
+    → Took b at 32 number a1 → Took b a1 48 daysAndCounts a2
+    → CutOut daysAndCounts 16 32 connected → CutOut daysAndCounts 16 16 disconnected → CutOut daysAndCounts 5 11 transfers → CutOut daysAndCounts 6 5 conditions → CutOut daysAndCounts 5 0 meters
+    → (_≡_ {A = PointHead} (record { number = number; connected = connected; disconnected = disconnected; transfers = transfers; conditions = conditions; meters = meters }) (pointHeadAt b at)) × (a2 ≡ transfersFrom at)
+point-taken {at = at} t1 t2 c1 c2 c3 c4 c5 =
+    let s1 = cut-field (at + 32) t2 c1 (omega arith) (omega arith) in
+    let s2 = cut-field (at + 48) t2 c2 (omega arith) (omega arith) in
+    let s3 = cut-field (at + 64) t2 c3 (omega arith) (omega arith) in
+    let s4 = cut-field (at + 69) t2 c4 (omega arith) (omega arith) in
+    let s5 = cut-field (at + 75) t2 c5 (omega arith) (omega arith) in
+    (cc, omega arith)
 
-pub point-taken : {b : List ℕ} {at number connected disconnected transfers conditions meters a1 a2 a3 a4 a5 a6 : ℕ}
-    → Took b at 32 number a1 → Took b a1 16 connected a2 → Took b a2 16 disconnected a3 → Took b a3 5 transfers a4 → Took b a4 6 conditions a5 → Took b a5 5 meters a6
-    → (_≡_ {A = PointHead} (record { number = number; connected = connected; disconnected = disconnected; transfers = transfers; conditions = conditions; meters = meters }) (pointHeadAt b at)) × (a6 ≡ transfersFrom at)
-point-taken t1 t2 t3 t4 t5 t6 =
-    let s2 = then (t1 .after) t2 in
-    let s3 = then (s2 .after) t3 in
-    let s4 = then (s3 .after) t4 in
-    let s5 = then (s4 .after) t5 in
-    let s6 = then (s5 .after) t6 in
-    (cc, s6 .after)
+pub transfer-taken : {b : List ℕ} {at day provider dayAndProvider a1 : ℕ}
+    → Took b at 32 dayAndProvider a1
+    → CutOut dayAndProvider 16 16 day → CutOut dayAndProvider 16 0 provider
+    → (_≡_ {A = Transfer} (record { day = day; provider = provider }) (transferAt b at)) × (a1 ≡ afterTransfer at)
+transfer-taken {at = at} t1 c1 c2 =
+    let s1 = cut-field at t1 c1 (omega arith) (omega arith) in
+    let s2 = cut-field (at + 16) t1 c2 (omega arith) (omega arith) in
+    (cc, omega arith)
 
-pub transfer-taken : {b : List ℕ} {at day provider a1 a2 : ℕ}
-    → Took b at 16 day a1 → Took b a1 16 provider a2
-    → (_≡_ {A = Transfer} (record { day = day; provider = provider }) (transferAt b at)) × (a2 ≡ afterTransfer at)
-transfer-taken t1 t2 =
-    let s2 = then (t1 .after) t2 in
-    (cc, s2 .after)
+pub condition-taken : {b : List ℕ} {at day vacant disconnected property roads schedule3 section29e rateable state a1 a2 : ℕ}
+    → Took b at 48 state a1 → Took b a1 24 rateable a2
+    → CutOut state 16 32 day → CutOut state 1 31 vacant → CutOut state 1 30 disconnected → CutOut state 1 29 property → CutOut state 1 28 roads → CutOut state 14 14 schedule3 → CutOut state 14 0 section29e
+    → (_≡_ {A = Condition} (record { day = day; vacant = vacant; disconnected = disconnected; property = property; roads = roads; schedule3 = schedule3; section29e = section29e; rateable = rateable }) (conditionAt b at)) × (a2 ≡ afterCondition at)
+condition-taken {at = at} t1 t2 c1 c2 c3 c4 c5 c6 c7 =
+    let s1 = cut-field at t1 c1 (omega arith) (omega arith) in
+    let s2 = cut-field (at + 16) t1 c2 (omega arith) (omega arith) in
+    let s3 = cut-field (at + 17) t1 c3 (omega arith) (omega arith) in
+    let s4 = cut-field (at + 18) t1 c4 (omega arith) (omega arith) in
+    let s5 = cut-field (at + 19) t1 c5 (omega arith) (omega arith) in
+    let s6 = cut-field (at + 20) t1 c6 (omega arith) (omega arith) in
+    let s7 = cut-field (at + 34) t1 c7 (omega arith) (omega arith) in
+    (cc, omega arith)
 
-pub condition-taken : {b : List ℕ} {at day vacant disconnected property roads schedule3 section29e rateable a1 a2 a3 a4 a5 a6 a7 a8 : ℕ}
-    → Took b at 16 day a1 → Took b a1 1 vacant a2 → Took b a2 1 disconnected a3 → Took b a3 1 property a4 → Took b a4 1 roads a5 → Took b a5 14 schedule3 a6 → Took b a6 14 section29e a7 → Took b a7 24 rateable a8
-    → (_≡_ {A = Condition} (record { day = day; vacant = vacant; disconnected = disconnected; property = property; roads = roads; schedule3 = schedule3; section29e = section29e; rateable = rateable }) (conditionAt b at)) × (a8 ≡ afterCondition at)
-condition-taken t1 t2 t3 t4 t5 t6 t7 t8 =
-    let s2 = then (t1 .after) t2 in
-    let s3 = then (s2 .after) t3 in
-    let s4 = then (s3 .after) t4 in
-    let s5 = then (s4 .after) t5 in
-    let s6 = then (s5 .after) t6 in
-    let s7 = then (s6 .after) t7 in
-    let s8 = then (s7 .after) t8 in
-    (cc, s8 .after)
+pub meter-taken : {b : List ℕ} {at size share returned digits installed removed reads details a1 a2 : ℕ}
+    → Took b at 16 size a1 → Took b a1 56 details a2
+    → CutOut details 7 49 share → CutOut details 7 42 returned → CutOut details 4 38 digits → CutOut details 16 22 installed → CutOut details 16 6 removed → CutOut details 6 0 reads
+    → (_≡_ {A = MeterHead} (record { size = size; share = share; returned = returned; digits = digits; installed = installed; removed = removed; reads = reads }) (meterHeadAt b at)) × (a2 ≡ readsFrom at)
+meter-taken {at = at} t1 t2 c1 c2 c3 c4 c5 c6 =
+    let s1 = cut-field (at + 16) t2 c1 (omega arith) (omega arith) in
+    let s2 = cut-field (at + 23) t2 c2 (omega arith) (omega arith) in
+    let s3 = cut-field (at + 30) t2 c3 (omega arith) (omega arith) in
+    let s4 = cut-field (at + 34) t2 c4 (omega arith) (omega arith) in
+    let s5 = cut-field (at + 50) t2 c5 (omega arith) (omega arith) in
+    let s6 = cut-field (at + 66) t2 c6 (omega arith) (omega arith) in
+    (cc, omega arith)
 
-pub meter-taken : {b : List ℕ} {at size share returned digits installed removed reads a1 a2 a3 a4 a5 a6 a7 : ℕ}
-    → Took b at 16 size a1 → Took b a1 7 share a2 → Took b a2 7 returned a3 → Took b a3 4 digits a4 → Took b a4 16 installed a5 → Took b a5 16 removed a6 → Took b a6 6 reads a7
-    → (_≡_ {A = MeterHead} (record { size = size; share = share; returned = returned; digits = digits; installed = installed; removed = removed; reads = reads }) (meterHeadAt b at)) × (a7 ≡ readsFrom at)
-meter-taken t1 t2 t3 t4 t5 t6 t7 =
-    let s2 = then (t1 .after) t2 in
-    let s3 = then (s2 .after) t3 in
-    let s4 = then (s3 .after) t4 in
-    let s5 = then (s4 .after) t5 in
-    let s6 = then (s5 .after) t6 in
-    let s7 = then (s6 .after) t7 in
-    (cc, s7 .after)
-
-pub read-taken : {b : List ℕ} {at day rollover value a1 a2 a3 : ℕ}
-    → Took b at 16 day a1 → Took b a1 1 rollover a2 → Took b a2 27 value a3
-    → (_≡_ {A = Read} (record { day = day; rollover = rollover; value = value }) (readAt b at)) × (a3 ≡ afterRead at)
-read-taken t1 t2 t3 =
-    let s2 = then (t1 .after) t2 in
-    let s3 = then (s2 .after) t3 in
-    (cc, s3 .after)
+pub read-taken : {b : List ℕ} {at day rollover value whole a1 : ℕ}
+    → Took b at 44 whole a1
+    → CutOut whole 16 28 day → CutOut whole 1 27 rollover → CutOut whole 27 0 value
+    → (_≡_ {A = Read} (record { day = day; rollover = rollover; value = value }) (readAt b at)) × (a1 ≡ afterRead at)
+read-taken {at = at} t1 c1 c2 c3 =
+    let s1 = cut-field at t1 c1 (omega arith) (omega arith) in
+    let s2 = cut-field (at + 16) t1 c2 (omega arith) (omega arith) in
+    let s3 = cut-field (at + 17) t1 c3 (omega arith) (omega arith) in
+    (cc, omega arith)

@@ -7,6 +7,7 @@ ghost use Rattle.rules.specs.File.{bandsAt, afterBand, transfersFrom, afterTran
 ghost use Rattle.rules.specs.File.{meters, afterMeters, pointAt, afterPoint};
 ghost use Rattle.records.specs.Lists.{afterLists};
 use bits::Cursor;
+use bits::cut;
 use rules::Band;
 use rules::Condition;
 use rules::Header;
@@ -50,34 +51,32 @@ pub struct TakenRead {
     pub next: Cursor,
 }
 
+// THE READERS
+// Loads are most of what reading costs. So a record is taken in groups of fields that stand side by side, with one load for a group and not for
+// each field, and the fields are cut out of their group. `cut` is given a field's width, as document 01 has it, and how many bits of the group
+// stand after the field.
+
 // The header, which stands first.
 pub fn header(file: &[u8]) -> TakenHeader
     ensures { λ r. ⌜ (r .value ≡ headerAt (now (file .entry))) × (r .next .at ≡ bandsAt) ⌝ }
 {
     let c = Cursor { at: 0 };
-    let mark = c.take(file, 16);
-    let version = mark.next.take(file, 4);
-    let service = version.next.take(file, 1);
-    let year = service.next.take(file, 12);
-    let bands = year.next.take(file, 5);
-    let points = bands.next.take(file, 7);
-    let property = points.next.take(file, 14);
-    let roads = property.next.take(file, 14);
-    let capacity = roads.next.take(file, 17);
-    let standard = capacity.next.take(file, 17);
-    let next = standard.next;
+    let opening = c.take(file, 45);
+    let prices = opening.next.take(file, 28);
+    let rates = prices.next.take(file, 34);
+    let next = rates.next;
     TakenHeader {
         value: Header {
-            mark: mark.value,
-            version: version.value,
-            service: service.value,
-            year: year.value,
-            bands: bands.value,
-            points: points.value,
-            property: property.value,
-            roads: roads.value,
-            capacity: capacity.value,
-            standard: standard.value,
+            mark: cut(opening.value, 16, 29),
+            version: cut(opening.value, 4, 25),
+            service: cut(opening.value, 1, 24),
+            year: cut(opening.value, 12, 12),
+            bands: cut(opening.value, 5, 7),
+            points: cut(opening.value, 7, 0),
+            property: cut(prices.value, 14, 14),
+            roads: cut(prices.value, 14, 0),
+            capacity: cut(rates.value, 17, 17),
+            standard: cut(rates.value, 17, 0),
         },
         next,
     }
@@ -87,17 +86,15 @@ pub fn band(file: &[u8], c: Cursor) -> TakenBand
     requires { ⌜ c .at < 2 ^ 32 ⌝ }
     ensures { λ r. ⌜ (r .value ≡ bandAt (now (file .entry)) (c .at)) × (r .next .at ≡ afterBand (c .at)) ⌝ }
 {
-    let size = c.take(file, 16);
-    let annual = size.next.take(file, 30);
-    let allowance = annual.next.take(file, 20);
-    let threshold = allowance.next.take(file, 24);
-    let next = threshold.next;
+    let charge = c.take(file, 46);
+    let limits = charge.next.take(file, 44);
+    let next = limits.next;
     TakenBand {
         value: Band {
-            size: size.value,
-            annual: annual.value,
-            allowance: allowance.value,
-            threshold: threshold.value,
+            size: cut(charge.value, 16, 30),
+            annual: cut(charge.value, 30, 0),
+            allowance: cut(limits.value, 20, 24),
+            threshold: cut(limits.value, 24, 0),
         },
         next,
     }
@@ -109,20 +106,16 @@ pub fn point(file: &[u8], c: Cursor) -> TakenPointHead
     ensures { λ r. ⌜ (r .value ≡ pointHeadAt (now (file .entry)) (c .at)) × (r .next .at ≡ transfersFrom (c .at)) ⌝ }
 {
     let number = c.take(file, 32);
-    let connected = number.next.take(file, 16);
-    let disconnected = connected.next.take(file, 16);
-    let transfers = disconnected.next.take(file, 5);
-    let conditions = transfers.next.take(file, 6);
-    let meters = conditions.next.take(file, 5);
-    let next = meters.next;
+    let days_and_counts = number.next.take(file, 48);
+    let next = days_and_counts.next;
     TakenPointHead {
         value: PointHead {
             number: number.value,
-            connected: connected.value,
-            disconnected: disconnected.value,
-            transfers: transfers.value,
-            conditions: conditions.value,
-            meters: meters.value,
+            connected: cut(days_and_counts.value, 16, 32),
+            disconnected: cut(days_and_counts.value, 16, 16),
+            transfers: cut(days_and_counts.value, 5, 11),
+            conditions: cut(days_and_counts.value, 6, 5),
+            meters: cut(days_and_counts.value, 5, 0),
         },
         next,
     }
@@ -132,13 +125,12 @@ pub fn transfer(file: &[u8], c: Cursor) -> TakenTransfer
     requires { ⌜ c .at < 2 ^ 32 ⌝ }
     ensures { λ r. ⌜ (r .value ≡ transferAt (now (file .entry)) (c .at)) × (r .next .at ≡ afterTransfer (c .at)) ⌝ }
 {
-    let day = c.take(file, 16);
-    let provider = day.next.take(file, 16);
-    let next = provider.next;
+    let day_and_provider = c.take(file, 32);
+    let next = day_and_provider.next;
     TakenTransfer {
         value: Transfer {
-            day: day.value,
-            provider: provider.value,
+            day: cut(day_and_provider.value, 16, 16),
+            provider: cut(day_and_provider.value, 16, 0),
         },
         next,
     }
@@ -148,24 +140,18 @@ pub fn condition(file: &[u8], c: Cursor) -> TakenCondition
     requires { ⌜ c .at < 2 ^ 32 ⌝ }
     ensures { λ r. ⌜ (r .value ≡ conditionAt (now (file .entry)) (c .at)) × (r .next .at ≡ afterCondition (c .at)) ⌝ }
 {
-    let day = c.take(file, 16);
-    let vacant = day.next.take(file, 1);
-    let disconnected = vacant.next.take(file, 1);
-    let property = disconnected.next.take(file, 1);
-    let roads = property.next.take(file, 1);
-    let schedule3 = roads.next.take(file, 14);
-    let section29e = schedule3.next.take(file, 14);
-    let rateable = section29e.next.take(file, 24);
+    let state = c.take(file, 48);
+    let rateable = state.next.take(file, 24);
     let next = rateable.next;
     TakenCondition {
         value: Condition {
-            day: day.value,
-            vacant: vacant.value,
-            disconnected: disconnected.value,
-            property: property.value,
-            roads: roads.value,
-            schedule3: schedule3.value,
-            section29e: section29e.value,
+            day: cut(state.value, 16, 32),
+            vacant: cut(state.value, 1, 31),
+            disconnected: cut(state.value, 1, 30),
+            property: cut(state.value, 1, 29),
+            roads: cut(state.value, 1, 28),
+            schedule3: cut(state.value, 14, 14),
+            section29e: cut(state.value, 14, 0),
             rateable: rateable.value,
         },
         next,
@@ -178,22 +164,17 @@ pub fn meter(file: &[u8], c: Cursor) -> TakenMeterHead
     ensures { λ r. ⌜ (r .value ≡ meterHeadAt (now (file .entry)) (c .at)) × (r .next .at ≡ readsFrom (c .at)) ⌝ }
 {
     let size = c.take(file, 16);
-    let share = size.next.take(file, 7);
-    let returned = share.next.take(file, 7);
-    let digits = returned.next.take(file, 4);
-    let installed = digits.next.take(file, 16);
-    let removed = installed.next.take(file, 16);
-    let reads = removed.next.take(file, 6);
-    let next = reads.next;
+    let details = size.next.take(file, 56);
+    let next = details.next;
     TakenMeterHead {
         value: MeterHead {
             size: size.value,
-            share: share.value,
-            returned: returned.value,
-            digits: digits.value,
-            installed: installed.value,
-            removed: removed.value,
-            reads: reads.value,
+            share: cut(details.value, 7, 49),
+            returned: cut(details.value, 7, 42),
+            digits: cut(details.value, 4, 38),
+            installed: cut(details.value, 16, 22),
+            removed: cut(details.value, 16, 6),
+            reads: cut(details.value, 6, 0),
         },
         next,
     }
@@ -203,15 +184,13 @@ pub fn read(file: &[u8], c: Cursor) -> TakenRead
     requires { ⌜ c .at < 2 ^ 32 ⌝ }
     ensures { λ r. ⌜ (r .value ≡ readAt (now (file .entry)) (c .at)) × (r .next .at ≡ afterRead (c .at)) ⌝ }
 {
-    let day = c.take(file, 16);
-    let rollover = day.next.take(file, 1);
-    let value = rollover.next.take(file, 27);
-    let next = value.next;
+    let whole = c.take(file, 44);
+    let next = whole.next;
     TakenRead {
         value: Read {
-            day: day.value,
-            rollover: rollover.value,
-            value: value.value,
+            day: cut(whole.value, 16, 28),
+            rollover: cut(whole.value, 1, 27),
+            value: cut(whole.value, 27, 0),
         },
         next,
     }

@@ -1,8 +1,8 @@
 -- Laws of sheets that are added to. Assumes nothing.
 use Prim.Native.Nat.{ℕ, _+_, _-_, _*_, _/_, _≤_, _<_, _^_, min}
-use mathlib.Core.Path.{_≡_, refl, ap, ap₂, _∙_, subst}
+use mathlib.Core.Path.{_≡_, refl, sym, ap, ap₂, _∙_, subst}
 use mathlib.Core.List.{List}
-use native.Mathlib.Nat.{le-refl, mul-le-mul, mul-le-mul-left, div-le-of-le-mul, mul-comm}
+use native.Mathlib.Nat.{le-refl, mul-le-mul, mul-le-mul-left, mul-comm, mul-right-comm, mul-zero, zero-div, div-le-of-le-mul, mul-div-mul-right}
 use native.Mathlib.Decide.{decLt}
 use native.Mathlib.Omega.{arith}
 use borrow.Author.Tests.{le-leb, lt-leb, lt-ltb, le-ltb}
@@ -117,8 +117,24 @@ module _ {l a : List ℕ} {start : ℕ} {rest whole : ℕ → ℕ} (u : Rest l a
 pub amount-fits : {litres parts first last : ℕ} → Spreadable litres parts first last → litres * parts ≤ 1000000000000000
 amount-fits s = omega (arith, mul-le-mul (s .few) (s .whole))
 
-pub days-fit : {litres parts first last : ℕ} (j : ℕ) → Spreadable litres parts first last → j ≤ 3660 → litres * parts * j ≤ 3660000000000000000
-days-fit j s h = omega (arith, mul-le-mul (amount-fits s) h)
+pub counts-fit : (counts : ℕ) {parts first last : ℕ} → Spreadable (counts * 1000) parts first last → counts * parts ≤ 1000000000000
+counts-fit counts s = let few : counts ≤ 100000000 = omega (arith, s .few) in omega (arith, mul-le-mul few (s .whole))
+
+pub days-fit : (counts j : ℕ) {parts first last : ℕ} → Spreadable (counts * 1000) parts first last → j ≤ 3660 → counts * parts * j ≤ 3660000000000000
+days-fit counts j s h = omega (arith, mul-le-mul (counts-fit counts s) h)
+
+-- THE FRACTION, shortened: 1,000 litres of a count are a factor of it below and above
+pub carried-short : (counts parts n j : ℕ) → counts * parts * j / (10 * n) ≡ carriedBefore (counts * 1000) parts n j
+unfolding carriedBefore
+carried-short counts parts n j =
+    let above : counts * parts * j * 1000 ≡ counts * 1000 * parts * j = sym (ap (λ x. x * j) (mul-right-comm counts 1000 parts) ∙ mul-right-comm (counts * parts) 1000 j) in
+    let below : 10 * n * 1000 ≡ 10000 * n = omega arith in
+    sym (mul-div-mul-right {m = 1000} (counts * parts * j) (10 * n) (omega arith)) ∙ ap₂ _/_ above below
+
+-- no day comes before the first
+pub carried-none : (litres parts n : ℕ) {j : ℕ} → j ≡ 0 → 0 ≡ carriedBefore litres parts n j
+unfolding carriedBefore
+carried-none litres parts n e = sym (ap (λ j. litres * parts * j / (10000 * n)) e ∙ ap (λ x. x / (10000 * n)) (mul-zero (litres * parts)) ∙ zero-div (10000 * n))
 
 -- a day of an advance carries what the days up to and with it carry, less what those before it carry
 module _ (litres parts first last : ℕ) {d before up : ℕ} (from : first ≤ d) (b : before ≡ carriedBefore litres parts (last - first) (d - first))

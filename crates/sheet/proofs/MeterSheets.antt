@@ -16,9 +16,9 @@ use Rattle.rules.specs.File.{Meter, meterHead, meterHeadAt, reads, readsFrom, a
 use Rattle.rules.specs.Litres.{advance, litresPerCount, fromReads, meterLitres}
 use Rattle.rules.specs.Charges.{noBand, firstBand, bandFor}
 use Rattle.rules.specs.Good.{GoodBand, GoodRead, GoodAdvance, GoodAdvances, GoodMeter}
-use Rattle.sheet.specs.Sheets.{Overwritten, Grown, Room}
+use Rattle.rules.proofs.Lists.{latest-all}
+use Rattle.sheet.specs.Sheets.{Filled, Grown, Room}
 use Rattle.sheet.specs.Meters.{during, Spreadable, meterOf, weighed, MeterSheet, litresSheet, annualSheet, allowanceSheet, thresholdSheet, meterFigure, four, MeterRoom, MeterAdded, MetersFilled}
-use Rattle.sheet.proofs.Laws.{all-days, latest-all}
 use Rattle.sheet.proofs.Growth.{during-most, grown-as, room-as, Rest, rest-all, rest-room, rest-more, rest-none, spread-most, amount-fits}
 use Rattle.sheet.proofs.Readings.{advance-fits, spreadable, between-is}
 
@@ -141,17 +141,16 @@ pub record MetersLeft (before after : MeterSheet → List ℕ) (start : ℕ) (bs
   pub rest : (s : MeterSheet) → Rest (before s) (after s) start (λ d. over left (λ m. meterFigure bs s m d)) (λ d. over all (λ m. meterFigure bs s m d))
 
 -- the sheets are cleared before the first
-abbrev pub Cleared : (MeterSheet → List ℕ) → (MeterSheet → List ℕ) → ℕ → Type 0
-Cleared before after start = (s : MeterSheet) → Overwritten (before s) (after s) start 0 0
+abbrev pub Cleared : (MeterSheet → List ℕ) → (MeterSheet → List ℕ) → Type 0
+Cleared before after = (s : MeterSheet) → Filled (before s) (after s) 0 (λ d. 0)
 
-pub cleared : {l n a t l′ n′ a′ t′ : List ℕ} {start : ℕ} → Overwritten l l′ start 0 0 → Overwritten n n′ start 0 0 → Overwritten a a′ start 0 0 → Overwritten t t′ start 0 0 →
-    Cleared (four l n a t) (four l′ n′ a′ t′) start
-cleared ol on oa ot litresSheet = ol
-cleared ol on oa ot annualSheet = on
-cleared ol on oa ot allowanceSheet = oa
-cleared ol on oa ot thresholdSheet = ot
+pub cleared : {l n a t l′ n′ a′ t′ : List ℕ} → Filled l l′ 0 (λ d. 0) → Filled n n′ 0 (λ d. 0) → Filled a a′ 0 (λ d. 0) → Filled t t′ 0 (λ d. 0) → Cleared (four l n a t) (four l′ n′ a′ t′)
+cleared fl fn fa ft litresSheet = fl
+cleared fl fn fa ft annualSheet = fn
+cleared fl fn fa ft allowanceSheet = fa
+cleared fl fn fa ft thresholdSheet = ft
 
-module _ {l a : MeterSheet → List ℕ} {start : ℕ} (o : Cleared l a start) where
+module _ {l a : MeterSheet → List ℕ} {start : ℕ} (o : Cleared l a) where
   pub meters-begin : {bs : List Band} {ms : List Meter} → All GoodBand bs → All GoodMeter ms → length ms ≤ 16 → MetersLeft a a start bs ms ms
   meters-begin {bs} {ms} priced good few =
       record {
@@ -160,7 +159,7 @@ module _ {l a : MeterSheet → List ℕ} {start : ℕ} (o : Cleared l a start) w
           fits = λ i k.
               omega (
                 arith,
-                all-days i (o s) (omega (arith, o s .long)),
+                o s .each i (omega (arith, o s .long)),
                 over-most (λ m. meterFigure bs s m (start + i)) 40000000000000000 (λ m g. figure-most bs priced s m g (start + i)) ms good,
                 few,
               );
@@ -172,7 +171,7 @@ module _ {l a : MeterSheet → List ℕ} {start : ℕ} (o : Cleared l a start) w
   unfolding over
   meters-end u s =
       let g = rest-none (u .rest s) (λ d. refl) in
-      record { long = g .long ∙ o s .long; each = λ i h. omega (arith, g .each i (omega (arith, o s .long)), all-days i (o s) h) }
+      record { long = g .long ∙ o s .long; each = λ i h. omega (arith, g .each i (omega (arith, o s .long)), o s .each i h) }
 
 module _ {l a : MeterSheet → List ℕ} {start : ℕ} {bs : List Band} {all : List Meter} (m : Meter) (left : List Meter) (u : MetersLeft l a start bs all (m ∷ left)) where
   pub meters-room : MeterRoom a start bs m

@@ -11,7 +11,7 @@ use Rattle.rules.specs.declared.Read.{Read}
 use Rattle.rules.specs.declared.Band.{Band}
 use Rattle.rules.specs.declared.MeterHead.{MeterHead}
 use Rattle.rules.specs.Lists.{All, latest}
-use Rattle.rules.specs.File.{Meter, records, after, meterHead, readAt, reads, afterRead, afterReads, bandAt, bands, afterBand}
+use Rattle.rules.specs.File.{Meter, records, after, meterHead, readAt, reads, afterRead, afterReads, bandAt, bands, afterBand, afterBands}
 use Rattle.rules.specs.Litres.{dialValues, advance, betweenReads, fromReads, meterLitres}
 use Rattle.rules.specs.Charges.{noBand, firstBand, bandFor}
 use Rattle.rules.specs.Good.{GoodMeterHead, GoodRead, GoodAdvance, GoodAdvances, GoodMeter}
@@ -129,27 +129,47 @@ module _ (file : List ℕ) (m : MeterHead) (at start : ℕ) where
         let v = ahead-done u z in
         (v .0 ∙ sym (read-past (readAt file) (λ at r. afterRead at) (m .reads) at h e), subst (λ rs. Grown l a start (meterLitres (meterOf m rs))) (sym begun) (reads-end (v .1)))
 
--- BANDS: `served` is what serves a size, of the band so far and then the bands that are left
-abbrev pub BandsLeft : ℕ → Band → Band → List Band → Type 0
-BandsLeft size served band left = latest (λ b. b .size) (λ b. b) band left size ≡ served
+-- BANDS: `served` is what serves a size, of the band that stands at `best` and then the bands that are left
+abbrev pub BandsLeft : List ℕ → ℕ → Band → ℕ → List Band → Type 0
+BandsLeft file size served best left = latest (λ b. b .size) (λ b. b) (bandAt file best) left size ≡ served
 
-pub bands-turn : (size : ℕ) {served next : Band} (band b : Band) (left : List Band) → next ≡ cond (leb (b .size) size) b band → BandsLeft size served band (b ∷ left) → BandsLeft size served next left
-unfolding latest
-bands-turn size band b left e u = ap (λ x. latest (λ b. b .size) (λ b. b) x left size) e ∙ u
+cond-of : {A : Type 0} (g : ℕ → A) (t : Bool) (x y : ℕ) → cond t (g x) (g y) ≡ g (cond t x y)
+cond-of g true x y = refl
+cond-of g false x y = refl
 
-module _ (file : List ℕ) (n at size : ℕ) where
-  pub no-size : {b : Band} → b ≡ noBand → size ≡ 0 → b ≡ bandFor (bands file n at) size
-  unfolding bandFor
-  no-size e z = e ∙ simp (eq-eqb size 0 z)
+pub nearer-within : (t : Bool) {at best nearer : ℕ} → nearer ≡ cond t at best → best < at → nearer ≤ at
+nearer-within true e h = omega (arith, e)
+nearer-within false e h = omega (arith, e)
+
+module _ (file : List ℕ) (size : ℕ) where
+  pub bands-turn : {served : Band} {nearer : ℕ} (best at : ℕ) (left : List Band) → nearer ≡ cond (leb (bandAt file at .size) size) at best → BandsLeft file size served best (bandAt file at ∷ left) →
+      BandsLeft file size served nearer left
+  unfolding latest
+  bands-turn best at left e u =
+      ap (λ b. latest (λ b. b .size) (λ b. b) b left size) (ap (bandAt file) e ∙ sym (cond-of (bandAt file) (leb (bandAt file at .size) size) at best)) ∙ u
 
   cond-same : {A : Type 0} (t : Bool) (x : A) → cond t x x ≡ x
   cond-same true x = refl
   cond-same false x = refl
 
-  pub bands-done : {first : Band} {next : ℕ} → 0 < n → (first ≡ bandAt file at) × (next ≡ afterBand at) → {left last end : ℕ} {band : Band} → left ≡ 0 → (size ≡ 0 → ⊥) →
-      Ahead (bandAt file) (λ at b. afterBand at) left last end (BandsLeft size (latest (λ b. b .size) (λ b. b) first (bands file (n - 1) next) size) band) → band ≡ bandFor (bands file n at) size
-  unfolding latest bandFor firstBand
-  bands-done {first} {next} h e z s u =
-      ahead-done u z .1
-      ∙ ap (λ b. latest (λ b. b .size) (λ b. b) b (bands file (n - 1) next) size) (sym (cond-same (leb (first .size) size) first))
-      ∙ sym (ap (λ bs. bandFor bs size) (read-one (bandAt file) (λ at b. afterBand at) n at h e) ∙ simp (ne-eqb size 0 s))
+  module _ (n at : ℕ) where
+    pub no-size : {b : Band} → b ≡ noBand → size ≡ 0 → b ≡ bandFor (bands file n at) size
+    unfolding bandFor
+    no-size e z = e ∙ simp (eq-eqb size 0 z)
+
+    -- the bands behind the first
+    abbrev pub bandsBehind : List Band
+    bandsBehind = bands file (n - 1) (afterBand at)
+
+    module _ (h : 0 < n) where
+      pub bands-end : afterBands (afterBand at) bandsBehind ≡ afterBands at (bands file n at)
+      bands-end = sym (read-past (bandAt file) (λ at b. afterBand at) n at h (refl, refl))
+
+      pub bands-done : (best : ℕ) {left last end : ℕ} → left ≡ 0 → (size ≡ 0 → ⊥) →
+          Ahead (bandAt file) (λ at b. afterBand at) left last end (BandsLeft file size (latest (λ b. b .size) (λ b. b) (bandAt file at) bandsBehind size) best) →
+          bandAt file best ≡ bandFor (bands file n at) size
+      unfolding latest bandFor firstBand
+      bands-done best z s u =
+          ahead-done u z .1
+          ∙ ap (λ b. latest (λ b. b .size) (λ b. b) b bandsBehind size) (sym (cond-same (leb (bandAt file at .size) size) (bandAt file at)))
+          ∙ sym (ap (λ bs. bandFor bs size) (read-one (bandAt file) (λ at b. afterBand at) n at h (refl, refl)) ∙ simp (ne-eqb size 0 s))

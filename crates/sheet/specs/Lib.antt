@@ -1,3 +1,2 @@
 pub mod Sheets
-pub mod Conditions
 pub mod Meters

@@ -10,10 +10,10 @@ use Rattle.providers.proofs.provider_list.Statement.{statement}
 use Rattle.providers.proofs.provider_list.Tie as tie
 
 abbrev Inv-loop : tie.InvT-loop
-Inv-loop file head bands at₀ list₀ count₀ left₀ at list count left = Listing file (head .year) left at list count
+Inv-loop file head bands at₀ list₀ count₀ points-left₀ at list count points-left = Listing file (head .year) points-left at list count
 
 abbrev μ-loop : tie.MeasureT-loop
-μ-loop file head bands at₀ list₀ count₀ left₀ at list count left = left
+μ-loop file head bands at₀ list₀ count₀ points-left₀ at list count points-left = points-left
 
 header-requires : tie.Need-header-requires Inv-loop μ-loop
 header-requires c κs = search needs
@@ -39,8 +39,8 @@ slice-aggregate-put-point c = search needs
 put-point-requires : tie.Need-put-point-requires Inv-loop μ-loop
 put-point-requires c κs = let s = c .before .before .loop .inv in ((point-here _ (s .points) (c .before .loop-test .taken), point-within _ (s .points) (c .before .loop-test .taken)), ((s .from, s .to), s .lent))
 
-sub-left : tie.Need-sub-left Inv-loop μ-loop
-sub-left c = search needs
+sub-points-left : tie.Need-sub-points-left Inv-loop μ-loop
+sub-points-left c = search needs
 
 loop-less : tie.Need-loop-less Inv-loop μ-loop
 loop-less c = search needs
@@ -66,7 +66,7 @@ provider-list-spec =
     loop-holds
     slice-aggregate-put-point
     put-point-requires
-    sub-left
+    sub-points-left
     loop-less
     loop-again
     returns

@@ -1,8 +1,15 @@
--- `band` meets its contract: the record is what its fields are, and the positions add up. Assumes nothing.
+-- `band` meets its contract: the record is what is cut out of its groups, and the positions add up. Assumes nothing.
 use borrow.Author.Needs.{needs}
 use Rattle.records.proofs.Fields.{band-taken}
 use Rattle.records.proofs.band.Statement.{statement}
 use Rattle.records.proofs.band.Tie as tie
+
+returns : tie.Need-returns
+returns c =
+    let groups = c .before .before .before .before .before in
+    band-taken
+    (groups .before .take .ensures) (groups .take2 .ensures)
+    (c .before .before .before .cut .ensures) (c .before .before .cut2 .ensures) (c .before .cut3 .ensures) (c .cut4 .ensures)
 
 pub band-spec : {M : Type 1} → statement M
 band-spec =
@@ -12,4 +19,6 @@ band-spec =
     (λ c κs. search needs)
     (λ c κs. search needs)
     (λ c κs. search needs)
-    (λ c. band-taken (c .before .before .before .before .take .ensures) (c .before .before .before .take2 .ensures) (c .before .before .take3 .ensures) (c .before .take4 .ensures)))
+    (λ c κs. search needs)
+    (λ c κs. search needs)
+    returns)

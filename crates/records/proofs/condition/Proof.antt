@@ -1,8 +1,15 @@
--- `condition` meets its contract: the record is what its fields are, and the positions add up. Assumes nothing.
+-- `condition` meets its contract: the record is what is cut out of its groups, and the positions add up. Assumes nothing.
 use borrow.Author.Needs.{needs}
 use Rattle.records.proofs.Fields.{condition-taken}
 use Rattle.records.proofs.condition.Statement.{statement}
 use Rattle.records.proofs.condition.Tie as tie
+
+returns : tie.Need-returns
+returns c =
+    let groups = c .before .before .before .before .before .before .before .before in
+    condition-taken
+    (groups .before .take .ensures) (groups .take2 .ensures)
+    (c .before .before .before .before .before .before .cut .ensures) (c .before .before .before .before .before .cut2 .ensures) (c .before .before .before .before .cut3 .ensures) (c .before .before .before .cut4 .ensures) (c .before .before .cut5 .ensures) (c .before .cut6 .ensures) (c .cut7 .ensures)
 
 pub condition-spec : {M : Type 1} → statement M
 condition-spec =
@@ -16,4 +23,5 @@ condition-spec =
     (λ c κs. search needs)
     (λ c κs. search needs)
     (λ c κs. search needs)
-    (λ c. condition-taken (c .before .before .before .before .before .before .before .before .take .ensures) (c .before .before .before .before .before .before .before .take2 .ensures) (c .before .before .before .before .before .before .take3 .ensures) (c .before .before .before .before .before .take4 .ensures) (c .before .before .before .before .take5 .ensures) (c .before .before .before .take6 .ensures) (c .before .before .take7 .ensures) (c .before .take8 .ensures)))
+    (λ c κs. search needs)
+    returns)

@@ -1,9 +1,15 @@
--- `header` meets its contract: the record is what its fields are, and the positions add up. Assumes nothing.
+-- `header` meets its contract: the record is what is cut out of its groups, and the positions add up. Assumes nothing.
 use borrow.Author.Needs.{needs}
-use native.Mathlib.Omega.{arith}
 use Rattle.records.proofs.Fields.{header-taken}
 use Rattle.records.proofs.header.Statement.{statement}
 use Rattle.records.proofs.header.Tie as tie
+
+returns : tie.Need-returns
+returns c =
+    let groups = c .before .before .before .before .before .before .before .before .before .before .before in
+    header-taken
+    (groups .before .before .take .ensures) (groups .before .take2 .ensures) (groups .take3 .ensures)
+    (c .before .before .before .before .before .before .before .before .before .cut .ensures) (c .before .before .before .before .before .before .before .before .cut2 .ensures) (c .before .before .before .before .before .before .before .cut3 .ensures) (c .before .before .before .before .before .before .cut4 .ensures) (c .before .before .before .before .before .cut5 .ensures) (c .before .before .before .before .cut6 .ensures) (c .before .before .before .cut7 .ensures) (c .before .before .cut8 .ensures) (c .before .cut9 .ensures) (c .cut10 .ensures)
 
 pub header-spec : {M : Type 1} → statement M
 header-spec =
@@ -17,6 +23,9 @@ header-spec =
     (λ c κs. search needs)
     (λ c κs. search needs)
     (λ c κs. search needs)
-    (λ c κs. omega (arith, c .before .before .before .before .before .before .before .take .ensures .after, c .before .before .before .before .before .before .take2 .ensures .after, c .before .before .before .before .before .take3 .ensures .after, c .before .before .before .before .take4 .ensures .after, c .before .before .before .take5 .ensures .after, c .before .before .take6 .ensures .after, c .before .take7 .ensures .after, c .take8 .ensures .after))
-    (λ c κs. omega (arith, c .before .before .before .before .before .before .before .before .take .ensures .after, c .before .before .before .before .before .before .before .take2 .ensures .after, c .before .before .before .before .before .before .take3 .ensures .after, c .before .before .before .before .before .take4 .ensures .after, c .before .before .before .before .take5 .ensures .after, c .before .before .before .take6 .ensures .after, c .before .before .take7 .ensures .after, c .before .take8 .ensures .after, c .take9 .ensures .after))
-    (λ c. header-taken (c .before .before .before .before .before .before .before .before .before .before .take .ensures) (c .before .before .before .before .before .before .before .before .before .take2 .ensures) (c .before .before .before .before .before .before .before .before .take3 .ensures) (c .before .before .before .before .before .before .before .take4 .ensures) (c .before .before .before .before .before .before .take5 .ensures) (c .before .before .before .before .before .take6 .ensures) (c .before .before .before .before .take7 .ensures) (c .before .before .before .take8 .ensures) (c .before .before .take9 .ensures) (c .before .take10 .ensures)))
+    (λ c κs. search needs)
+    (λ c κs. search needs)
+    (λ c κs. search needs)
+    (λ c κs. search needs)
+    (λ c κs. search needs)
+    returns)

@@ -1,8 +1,15 @@
--- `point` meets its contract: the record is what its fields are, and the positions add up. Assumes nothing.
+-- `point` meets its contract: the record is what is cut out of its groups, and the positions add up. Assumes nothing.
 use borrow.Author.Needs.{needs}
 use Rattle.records.proofs.Fields.{point-taken}
 use Rattle.records.proofs.point.Statement.{statement}
 use Rattle.records.proofs.point.Tie as tie
+
+returns : tie.Need-returns
+returns c =
+    let groups = c .before .before .before .before .before .before in
+    point-taken
+    (groups .before .take .ensures) (groups .take2 .ensures)
+    (c .before .before .before .before .cut .ensures) (c .before .before .before .cut2 .ensures) (c .before .before .cut3 .ensures) (c .before .cut4 .ensures) (c .cut5 .ensures)
 
 pub point-spec : {M : Type 1} → statement M
 point-spec =
@@ -14,4 +21,5 @@ point-spec =
     (λ c κs. search needs)
     (λ c κs. search needs)
     (λ c κs. search needs)
-    (λ c. point-taken (c .before .before .before .before .before .before .take .ensures) (c .before .before .before .before .before .take2 .ensures) (c .before .before .before .before .take3 .ensures) (c .before .before .before .take4 .ensures) (c .before .before .take5 .ensures) (c .before .take6 .ensures)))
+    (λ c κs. search needs)
+    returns)

@@ -1,8 +1,15 @@
--- `read` meets its contract: the record is what its fields are, and the positions add up. Assumes nothing.
+-- `read` meets its contract: the record is what is cut out of its groups, and the positions add up. Assumes nothing.
 use borrow.Author.Needs.{needs}
 use Rattle.records.proofs.Fields.{read-taken}
 use Rattle.records.proofs.read.Statement.{statement}
 use Rattle.records.proofs.read.Tie as tie
+
+returns : tie.Need-returns
+returns c =
+    let groups = c .before .before .before .before in
+    read-taken
+    (groups .take .ensures)
+    (c .before .before .cut .ensures) (c .before .cut2 .ensures) (c .cut3 .ensures)
 
 pub read-spec : {M : Type 1} → statement M
 read-spec =
@@ -11,4 +18,5 @@ read-spec =
     (λ c κs. search needs)
     (λ c κs. search needs)
     (λ c κs. search needs)
-    (λ c. read-taken (c .before .before .before .take .ensures) (c .before .before .take2 .ensures) (c .before .take3 .ensures)))
+    (λ c κs. search needs)
+    returns)

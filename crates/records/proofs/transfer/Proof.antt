@@ -1,8 +1,15 @@
--- `transfer` meets its contract: the record is what its fields are, and the positions add up. Assumes nothing.
+-- `transfer` meets its contract: the record is what is cut out of its groups, and the positions add up. Assumes nothing.
 use borrow.Author.Needs.{needs}
 use Rattle.records.proofs.Fields.{transfer-taken}
 use Rattle.records.proofs.transfer.Statement.{statement}
 use Rattle.records.proofs.transfer.Tie as tie
+
+returns : tie.Need-returns
+returns c =
+    let groups = c .before .before .before in
+    transfer-taken
+    (groups .take .ensures)
+    (c .before .cut .ensures) (c .cut2 .ensures)
 
 pub transfer-spec : {M : Type 1} → statement M
 transfer-spec =
@@ -10,4 +17,5 @@ transfer-spec =
     (tie.spec
     (λ c κs. search needs)
     (λ c κs. search needs)
-    (λ c. transfer-taken (c .before .before .take .ensures) (c .before .take2 .ensures)))
+    (λ c κs. search needs)
+    returns)

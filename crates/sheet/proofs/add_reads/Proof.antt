@@ -35,11 +35,11 @@ loop-holds c = reads-begin _ _ _ _ (omega (arith, c .before .before .before .bef
 read-requires-2 : tie.Need-read-requires-2 Inv-loop μ-loop
 read-requires-2 c κs = let s = c .before .before .before .before .before .before .before .before .before .before .before .args in omega (arith, c .before .before .before .before .before .before .before .before .before .before .before .pre .0, ahead-within (c .before .loop .inv) (λ at r. omega arith), read-past (readAt (now (s .file))) (λ at r. afterRead at) (s .head .reads) (s .c .at) (omega (arith, c .before .before .before .before .before .before .before .if1 .left)) (c .before .before .before .before .before .read .ensures))
 
-advance-of-requires : tie.Need-advance-of-requires Inv-loop μ-loop
-advance-of-requires c κs = ahead-one (c .before .before .before .loop .inv) (c .before .before .loop-test .taken) (c .before .read2 .ensures) (λ rs u. (u .sound, u .each .0, u .advances .0))
+counts-between-requires : tie.Need-counts-between-requires Inv-loop μ-loop
+counts-between-requires c κs = ahead-one (c .before .before .before .loop .inv) (c .before .before .loop-test .taken) (c .before .read2 .ensures) (λ rs u. (u .sound, u .each .0, u .advances .0))
 
 add-advance-requires : tie.Need-add-advance-requires Inv-loop μ-loop
-add-advance-requires c κs = ahead-one (c .before .before .before .before .before .loop .inv) (c .before .before .before .before .loop-test .taken) (c .before .before .before .read2 .ensures) (λ rs u. (reads-room (c .before .advance-of .ensures .0) u, spreadable (u .sound) (u .advances .0) (c .before .advance-of .ensures .1)))
+add-advance-requires c κs = ahead-one (c .before .before .before .before .before .loop .inv) (c .before .before .before .before .loop-test .taken) (c .before .before .before .read2 .ensures) (λ rs u. (reads-room (c .before .counts-between .ensures .0) u, spreadable (u .sound) (u .advances .0) (c .before .counts-between .ensures .1)))
 
 sub-left-2 : tie.Need-sub-left-2 Inv-loop μ-loop
 sub-left-2 c = search needs
@@ -48,7 +48,7 @@ loop-less : tie.Need-loop-less Inv-loop μ-loop
 loop-less c = search needs
 
 loop-again : tie.Need-loop-again Inv-loop μ-loop
-loop-again c = ahead-turn (c .before .before .before .before .before .before .before .before .before .loop .inv) (c .before .before .before .before .before .before .before .before .loop-test .taken) (c .before .before .before .before .before .before .before .read2 .ensures) (λ rs u. reads-turn (c .before .before .before .before .before .advance-of .ensures .0) u (c .before .before .before .add-advance .ensures))
+loop-again c = ahead-turn (c .before .before .before .before .before .before .before .before .before .loop .inv) (c .before .before .before .before .before .before .before .before .loop-test .taken) (c .before .before .before .before .before .before .before .read2 .ensures) (λ rs u. reads-turn (c .before .before .before .before .before .counts-between .ensures .0) u (c .before .before .before .add-advance .ensures))
 
 same-length : tie.Need-same-length Inv-loop μ-loop
 same-length c = c .before .loop .inv .holds .rest .long
@@ -68,7 +68,7 @@ add-reads-spec =
     sub-left
     loop-holds
     read-requires-2
-    advance-of-requires
+    counts-between-requires
     add-advance-requires
     sub-left-2
     loop-less

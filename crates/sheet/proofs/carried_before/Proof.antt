@@ -1,15 +1,13 @@
--- `sheet::carried_before` meets its contract. Assumes nothing.
+-- `sheet::carried_before` meets its contract: the shorter fraction is the same. Assumes nothing.
 use Prim.Native.Nat.{_-_}
-use mathlib.Core.Path.{refl}
 use native.Mathlib.Omega.{arith}
-use Rattle.rules.specs.Litres.{carriedBefore}
-use Rattle.sheet.proofs.Growth.{amount-fits, days-fit}
+use Rattle.sheet.proofs.Growth.{counts-fit, days-fit, carried-short}
 use borrow.Author.Needs.{needs}
 use Rattle.sheet.proofs.carried_before.Statement.{statement}
 use Rattle.sheet.proofs.carried_before.Tie as tie
 
 mul-amount : tie.Need-mul-amount
-mul-amount c = omega (arith, amount-fits (c .pre .0))
+mul-amount c = omega (arith, counts-fit (c .args .counts) (c .pre .0))
 
 sub-m : tie.Need-sub-m
 sub-m c = search needs
@@ -21,14 +19,13 @@ sub-result : tie.Need-sub-result
 sub-result c = search needs
 
 mul-result : tie.Need-mul-result
-mul-result c = omega (arith, days-fit (c .args .d - c .args .first) (c .pre .0) (omega (arith, c .pre .0 .near)))
+mul-result c = omega (arith, days-fit (c .args .counts) (c .args .d - c .args .first) (c .pre .0) (omega (arith, c .pre .0 .near)))
 
 div-result : tie.Need-div-result
 div-result c = search needs
 
 returns : tie.Need-returns
-unfolding carriedBefore
-returns c = refl
+returns c = carried-short (c .args .counts) (c .args .parts) (c .args .last - c .args .first) (c .args .d - c .args .first)
 
 pub carried-before-spec : {M : Type 1} → statement M
 carried-before-spec =

@@ -17,20 +17,20 @@ Inv-loop file count tariff bands litres₀ annual₀ allowance₀ threshold₀ s
 abbrev μ-loop : tie.MeasureT-loop
 μ-loop file count tariff bands litres₀ annual₀ allowance₀ threshold₀ start next₀ left₀ litres annual allowance threshold next left = left
 
-set-from-requires : tie.Need-set-from-requires Inv-loop μ-loop
-set-from-requires c κs = search needs
+clear-requires : tie.Need-clear-requires Inv-loop μ-loop
+clear-requires c κs = search needs
 
-set-from-requires-2 : tie.Need-set-from-requires-2 Inv-loop μ-loop
-set-from-requires-2 c κs = search needs
+clear-requires-2 : tie.Need-clear-requires-2 Inv-loop μ-loop
+clear-requires-2 c κs = search needs
 
-set-from-requires-3 : tie.Need-set-from-requires-3 Inv-loop μ-loop
-set-from-requires-3 c κs = search needs
+clear-requires-3 : tie.Need-clear-requires-3 Inv-loop μ-loop
+clear-requires-3 c κs = search needs
 
-set-from-requires-4 : tie.Need-set-from-requires-4 Inv-loop μ-loop
-set-from-requires-4 c κs = search needs
+clear-requires-4 : tie.Need-clear-requires-4 Inv-loop μ-loop
+clear-requires-4 c κs = search needs
 
 loop-holds : tie.Need-loop-holds Inv-loop μ-loop
-loop-holds c = let s = c .before .before .before .before .before .before .before .before .before .before .before .before .before .before .before .before .before .before .before .before .before .args in let g = c .before .before .before .before .before .before .before .before .before .before .before .before .before .before .before .before .before .before .before .before .before .pre in record { ends = refl; holds = meters-begin (cleared (c .before .before .before .before .before .before .before .before .before .before .before .before .before .before .set-from .ensures) (c .before .before .before .before .before .before .before .before .before .before .set-from2 .ensures) (c .before .before .before .before .before .before .set-from3 .ensures) (c .before .before .set-from4 .ensures)) (g .priced) (g .sound) (omega (arith, g .few, length-records (meterAt (now (s .file))) afterMeter (s .count) (s .c .at))) }
+loop-holds c = let s = c .before .before .before .before .before .before .before .before .before .before .before .before .before .before .before .before .before .before .before .before .before .args in let g = c .before .before .before .before .before .before .before .before .before .before .before .before .before .before .before .before .before .before .before .before .before .pre in record { ends = refl; holds = meters-begin (cleared (c .before .before .before .before .before .before .before .before .before .before .before .before .before .before .clear .ensures) (c .before .before .before .before .before .before .before .before .before .before .clear2 .ensures) (c .before .before .before .before .before .before .clear3 .ensures) (c .before .before .clear4 .ensures)) (g .priced) (g .sound) (omega (arith, g .few, length-records (meterAt (now (s .file))) afterMeter (s .count) (s .c .at))) }
 
 add-meter-requires : tie.Need-add-meter-requires Inv-loop μ-loop
 add-meter-requires c κs = let g = c .before .before .before .before .before .before .before .before .before .before .before .before .before .before .before .before .before .before .before .before .before .before .before .before .before .before .before .pre in let u = c .before .before .before .before .before .loop .inv in let h = c .before .before .before .before .loop-test .taken in (omega (arith, g .metersEnd, ahead-past u h (refl, refl) meter-forward), ((g .some, g .bandsEnd), (ahead-one u h (refl, refl) (λ ms v. v .good .0), (g .priced, ahead-one u h (refl, refl) (λ ms v. meters-room _ ms v)))))
@@ -45,19 +45,19 @@ loop-again : tie.Need-loop-again Inv-loop μ-loop
 loop-again c = ahead-turn (c .before .before .before .before .before .before .before .before .before .before .before .before .before .before .loop .inv) (c .before .before .before .before .before .before .before .before .before .before .before .before .before .loop-test .taken) (refl, c .before .before .before .before .before .before .before .before .add-meter .ensures .0) (λ ms u. meters-turn _ ms u (c .before .before .before .before .before .before .before .before .add-meter .ensures .1))
 
 same-length : tie.Need-same-length Inv-loop μ-loop
-same-length c = c .before .loop .inv .holds .rest litresSheet .long ∙ c .before .before .before .before .before .before .before .before .before .before .before .before .before .before .before .before .set-from .ensures .long
+same-length c = c .before .loop .inv .holds .rest litresSheet .long ∙ c .before .before .before .before .before .before .before .before .before .before .before .before .before .before .before .before .clear .ensures .long
 
 same-length-2 : tie.Need-same-length-2 Inv-loop μ-loop
-same-length-2 c = c .before .loop .inv .holds .rest annualSheet .long ∙ c .before .before .before .before .before .before .before .before .before .before .before .before .set-from2 .ensures .long
+same-length-2 c = c .before .loop .inv .holds .rest annualSheet .long ∙ c .before .before .before .before .before .before .before .before .before .before .before .before .clear2 .ensures .long
 
 same-length-3 : tie.Need-same-length-3 Inv-loop μ-loop
-same-length-3 c = c .before .loop .inv .holds .rest allowanceSheet .long ∙ c .before .before .before .before .before .before .before .before .set-from3 .ensures .long
+same-length-3 c = c .before .loop .inv .holds .rest allowanceSheet .long ∙ c .before .before .before .before .before .before .before .before .clear3 .ensures .long
 
 same-length-4 : tie.Need-same-length-4 Inv-loop μ-loop
-same-length-4 c = c .before .loop .inv .holds .rest thresholdSheet .long ∙ c .before .before .before .before .set-from4 .ensures .long
+same-length-4 c = c .before .loop .inv .holds .rest thresholdSheet .long ∙ c .before .before .before .before .clear4 .ensures .long
 
 returns : tie.Need-returns Inv-loop μ-loop
-returns c = let done = ahead-done (c .before .loop .inv) (omega arith) in (done .0, meters-end (cleared (c .before .before .before .before .before .before .before .before .before .before .before .before .before .before .before .before .set-from .ensures) (c .before .before .before .before .before .before .before .before .before .before .before .before .set-from2 .ensures) (c .before .before .before .before .before .before .before .before .set-from3 .ensures) (c .before .before .before .before .set-from4 .ensures)) (done .1))
+returns c = let done = ahead-done (c .before .loop .inv) (omega arith) in (done .0, meters-end (cleared (c .before .before .before .before .before .before .before .before .before .before .before .before .before .before .before .before .clear .ensures) (c .before .before .before .before .before .before .before .before .before .before .before .before .clear2 .ensures) (c .before .before .before .before .before .before .before .before .clear3 .ensures) (c .before .before .before .before .clear4 .ensures)) (done .1))
 
 pub fill-meters-spec : {M : Type 1} → statement M
 fill-meters-spec =
@@ -65,10 +65,10 @@ fill-meters-spec =
     (tie.spec
     Inv-loop
     μ-loop
-    set-from-requires
-    set-from-requires-2
-    set-from-requires-3
-    set-from-requires-4
+    clear-requires
+    clear-requires-2
+    clear-requires-3
+    clear-requires-4
     loop-holds
     add-meter-requires
     sub-left

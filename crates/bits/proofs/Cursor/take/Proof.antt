@@ -1,24 +1,28 @@
--- `Cursor::take` meets its contract: the field is the five bytes that hold it, cut at both ends. Assumes nothing.
+-- `Cursor::take` meets its contract: the field is the eight bytes that hold it, cut at both ends. Assumes nothing.
 use mathlib.Core.Path.{refl}
+use native.Mathlib.Omega.{arith}
 use borrow.Author.Needs.{needs}
 use denote.Ref.{now}
-use lib.Pow.{pow-pos}
-use Rattle.bits.proofs.Fields.{one-shl, field-of-five}
+use Rattle.bits.proofs.Fields.{field-none, one-shl-pos, field-of-eight}
 use Rattle.bits.proofs.Cursor.take.Statement.{statement}
 use Rattle.bits.proofs.Cursor.take.Tie as tie
 
-rem-t12 : tie.Need-rem-t12
-rem-t12 c = let start = c .before .before in rw (one-shl (start .args .width) (start .pre .0)) (pow-pos (start .args .width))
-
 returns : tie.Need-returns
-returns c =
-    let start = c .before .before in
-    record { is = field-of-five (now (start .args .file)) (start .args .self .at) (start .args .width) (start .pre .0) (c .five-bytes .ensures); after = refl }
+returns c = record { is = field-none _ _ (c .if1 .taken); after = omega arith }
+
+rem-t13 : tie.Need-rem-t13
+rem-t13 c = one-shl-pos _ (omega arith)
+
+returns-2 : tie.Need-returns-2
+returns-2 c =
+    let start = c .before .before .before in
+    record { is = field-of-eight (now (start .args .file)) (start .args .self .at) (start .args .width) (start .pre .0) (c .eight-bytes .ensures); after = refl }
 
 pub take-spec : {M : Type 1} → statement M
 take-spec =
     tie.close
     (tie.spec
+    returns
     (λ c. search needs)
     (λ c κs. search needs)
     (λ c. search needs)
@@ -26,6 +30,6 @@ take-spec =
     (λ c. search needs)
     (λ c. search needs)
     (λ c. search needs)
-    rem-t12
+    rem-t13
     (λ c. search needs)
-    returns)
+    returns-2)
