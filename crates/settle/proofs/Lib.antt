@@ -1,4 +1,3 @@
-pub mod Sums
 pub mod Parts
 pub mod Point
 pub mod Bounds
