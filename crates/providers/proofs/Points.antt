@@ -21,7 +21,7 @@ use Rattle.providers.specs.declared.Listed.{Listed}
 use Rattle.providers.specs.Listed.{InArray, Stands, Lent, Holds, With, pointProviders, WithPoint}
 use Rattle.providers.specs.Runs.{SoundTransfers}
 
-first-by-later : {day later : ℕ} (ts : List Transfer) → day ≤ later → FirstBy day ts → FirstBy later ts
+pub first-by-later : {day later : ℕ} (ts : List Transfer) → day ≤ later → FirstBy day ts → FirstBy later ts
 first-by-later [] l h = absurd h
 first-by-later (t ∷ ts) l h = omega arith
 
