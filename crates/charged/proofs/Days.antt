@@ -1,9 +1,8 @@
 -- The charged days by the ends of the year. Assumes nothing.
 use Prim.Native.Nat.{ℕ, _+_, _-_, _≤_, min, max}
-use mathlib.Core.Path.{_≡_, ap, ap₂, sym, _∙_}
+use mathlib.Core.Path.{_≡_, ap}
 use native.Mathlib.Omega.{arith}
 use Rattle.rules.specs.Calendar.{aprilFirst}
-use Rattle.rules.specs.File.{Tariff, Supply}
 use Rattle.rules.specs.Charges.{chargedFrom, chargedCount}
 use Rattle.charged.specs.declared.Charged.{Charged}
 use Rattle.charged.specs.Charged.{ChargedOf}

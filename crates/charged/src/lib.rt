@@ -2,8 +2,6 @@
 // 0 on; the number of a day is its entry.
 ghost use mathlib.Core.Path.{_≡_};
 ghost use Prim.Native.Nat.{_-_, _≤_, min};
-ghost use Rattle.rules.specs.File.{Tariff, Supply};
-ghost use Rattle.rules.specs.Charges.{chargedFrom, chargedCount};
 ghost use Rattle.charged.specs.Charged.{ChargedOf};
 use exact::greatest;
 use exact::least;

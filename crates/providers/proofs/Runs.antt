@@ -1,12 +1,12 @@
 -- The loop over a point's transfers: each has the days from its own entry up to the next one's, the last up to the end. Assumes nothing.
-use Prim.Native.Nat.{ℕ, zero, suc, _+_, _-_, _^_, _≤_, _<_, min}
+use Prim.Native.Nat.{ℕ, suc, _+_, _-_, _^_, _≤_, _<_, min}
 use mathlib.Core.Path.{_≡_, refl, sym, ap, _∙_, subst}
 use mathlib.Core.List.{List, [], _∷_, map}
 use native.Mathlib.Omega.{arith}
 use Rattle.rules.specs.declared.Transfer.{Transfer}
 use Rattle.rules.specs.Lists.{Ascending, latest}
 use Rattle.rules.specs.Settlement.{providerOn}
-use Rattle.rules.specs.File.{Point, records, after, transferAt, afterTransfer, transfers, afterTransfers}
+use Rattle.rules.specs.File.{Point, records, transferAt, afterTransfer, transfers, afterTransfers}
 use Rattle.rules.specs.Good.{FirstBy}
 use Rattle.rules.proofs.Lists.{latest-none, latest-here, latest-ahead}
 use Rattle.records.proofs.Positions.{forward}

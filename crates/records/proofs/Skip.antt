@@ -1,11 +1,11 @@
 -- Passing over a point's lists: fixed widths by their count, and meters one by one. Assumes nothing.
 use Prim.Native.Nat.{ℕ, zero, suc, _+_, _-_, _*_, _^_, _≤_, _<_}
-use mathlib.Core.Path.{_≡_, refl, sym, ap, _∙_}
+use mathlib.Core.Path.{_≡_, sym, ap, _∙_}
 use mathlib.Core.List.{List}
 use native.Mathlib.Omega.{arith}
 use Rattle.rules.specs.declared.MeterHead.{MeterHead}
 use Rattle.rules.specs.declared.PointHead.{PointHead}
-use Rattle.rules.specs.File.{records, after, readAt, meterHeadAt, meterAt, pointHeadAt, pointAt, transferAt, conditionAt, reads, meters, conditions, transfers, transfersFrom, readsFrom, afterReads, afterMeter, afterMeters, afterConditions, afterTransfers, afterPoint}
+use Rattle.rules.specs.File.{records, after, readAt, meterHeadAt, meterAt, pointHeadAt, pointAt, transferAt, conditionAt, reads, meters, conditions, transfers, transfersFrom, readsFrom, afterMeter, afterMeters, afterTransfers, afterPoint}
 use Rattle.records.specs.Lists.{afterLists}
 use Rattle.records.proofs.Positions.{forward, meter-forward, records-wide}
 

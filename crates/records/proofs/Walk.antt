@@ -2,14 +2,14 @@
 use Prim.Native.Nat.{ℕ, zero, suc, _+_, _-_, _*_, _^_, _≤_, _<_}
 use mathlib.Core.Path.{_≡_, refl, sym, ap, _∙_, subst}
 use mathlib.Core.Logic.{inl, inr}
-use mathlib.Core.List.{List, [], _∷_}
+use mathlib.Core.List.{List, _∷_}
 use native.Mathlib.Omega.{arith}
 use lib.ListN.{length}
 use Rattle.rules.specs.declared.Header.{Header}
 use Rattle.rules.specs.Lists.{All, In}
-use Rattle.rules.specs.File.{Tariff, Point, records, after, headerAt, bandAt, pointAt, points, bandsAt, bands, afterBands, afterPoint, afterPoints, decode}
+use Rattle.rules.specs.File.{Point, records, after, headerAt, bandAt, pointAt, points, bandsAt, bands, afterBands, afterPoint, afterPoints, decode}
 use Rattle.rules.specs.Good.{GoodPoint, Good}
-use Rattle.records.proofs.Positions.{length-records, forward, point-forward, records-wide}
+use Rattle.records.proofs.Positions.{forward, point-forward, records-wide}
 
 module _ (b : List ℕ) where
   pub record PointsLeft (left at : ℕ) : Type 0 where

@@ -1,7 +1,7 @@
 -- What number 0 says of what the file holds: the theorem that the stages after the check cite. Assumes nothing.
 use Prim.Native.Nat.{ℕ, zero, suc, _+_, _*_, _≤_, _<_}
-use Prim.{Unit, tt}
-use mathlib.Core.Path.{_≡_, refl, sym, _∙_}
+use Prim.{tt}
+use mathlib.Core.Path.{_≡_, refl}
 use mathlib.Core.List.{List, [], _∷_, _++_, map}
 use native.Mathlib.Numerals.{add-one}
 use native.Mathlib.Omega.{arith}
@@ -17,9 +17,9 @@ use Rattle.rules.specs.declared.MeterHead.{MeterHead}
 use Rattle.rules.specs.declared.Read.{Read}
 use Rattle.rules.specs.Lists.{All, Ascending}
 use Rattle.rules.specs.Calendar.{noDay}
-use Rattle.rules.specs.File.{Meter, Point, File, meterHead, pointHead, fileHeader, bandsAt, afterBand, afterBands, transfersFrom, afterTransfer, afterTransfers, afterCondition, afterConditions, readsFrom, afterRead, afterReads, afterMeter, afterMeters, afterPoint, afterPoints, after, decode}
+use Rattle.rules.specs.File.{Meter, Point, meterHead, pointHead, fileHeader, bandsAt, afterBand, afterBands, transfersFrom, afterTransfer, afterTransfers, afterCondition, afterConditions, readsFrom, afterRead, afterReads, afterMeter, afterMeters, afterPoint, afterPoints, after, decode}
 use Rattle.rules.specs.Litres.{dialValues}
-use Rattle.rules.specs.Refusal.{when, headerRule, bandRule, pointRule, transferRule, conditionRule, meterRule, readRule, bandNumbers, transferNumbers, conditionNumbers, readNumbers, meterNumbers, pointNumbers, fileNumbers, firstOr, fileRefusal}
+use Rattle.rules.specs.Refusal.{when, bandNumbers, transferNumbers, conditionNumbers, readNumbers, meterNumbers, pointNumbers, fileNumbers, firstOr, fileRefusal}
 use Rattle.rules.specs.Good.{GoodBand, GoodTransfer, FirstBy, GoodCondition, Undrained, GoodRead, GoodAdvances, GoodMeter, GoodPoint, Good}
 use Rattle.rules.proofs.Passed.{passed, good-header, good-band, good-point, good-transfer, good-condition, good-meter, good-read}
 

@@ -1,15 +1,15 @@
 -- The laws of lists: an ascending list is known by its elements, a number put into it is one of them, and the record in force is the one
 -- of the greatest key. Assumes nothing.
-use Prim.Native.Nat.{ℕ, zero, suc, _≤_, _<_}
+use Prim.Native.Nat.{ℕ, suc, _≤_, _<_}
 use mathlib.Core.Bool.{Bool, true, false, cond}
 use mathlib.Core.Path.{_≡_, refl, sym, ap, _∙_, subst}
 use mathlib.Core.Logic.{_⊎_, inl, inr, ⊎-elim, ⊎-map, _↔_, Iff·trans}
 use mathlib.Core.List.{List, [], _∷_, map}
 use native.Mathlib.Omega.{arith}
 use native.Mathlib.Decide.{decLt}
-use lib.Dec.{leb, ltb, eqb}
+use lib.Dec.{leb}
 use borrow.Author.Tests.{lt-ltb, le-ltb, le-leb, lt-leb, eq-eqb, ne-eqb}
-use Rattle.rules.specs.Lists.{All, Some, In, Ascending, Lists, insert, latest, IsLatest}
+use Rattle.rules.specs.Lists.{All, In, Ascending, Lists, insert, latest, IsLatest}
 
 -- two numbers in one of three orders
 pub three : (a b : ℕ) → (a < b) ⊎ ((a ≡ b) ⊎ (b < a))

@@ -2,8 +2,7 @@
 -- length and a refusal's number don't collide. Assumes nothing.
 use Prim.Native.Nat.{ℕ, zero, suc, _+_, _*_, _/_, _%_, _^_, _≤_, _<_}
 use mathlib.Core.Bool.{Bool, true, false, cond}
-use mathlib.Core.Path.{_≡_, refl, ap, sym, _∙_}
-use mathlib.Core.Logic.{⊎-elim}
+use mathlib.Core.Path.{_≡_, refl, ap, _∙_}
 use mathlib.Core.List.{List, [], _∷_, _++_}
 use native.Mathlib.Nat.{zero-mul, mul-zero, pow-suc, one-le-pow, le-div-iff-mul-le}
 use native.Mathlib.Omega.{arith}
@@ -12,7 +11,7 @@ use lib.Dec.{ltb, eqb}
 use lib.ListN.{length, length-append}
 use borrow.Author.Tests.{le-ltb}
 use Rattle.rules.specs.Sums.{only, overDays}
-use Rattle.rules.specs.File.{Point, Tariff, Supply, File, decode}
+use Rattle.rules.specs.File.{Point, Tariff, decode}
 use Rattle.rules.specs.Charges.{overCharged, chargedFrom, chargedCount, volumeOn, volume, volumetricCharge}
 use Rattle.rules.specs.Settlement.{overProviders, providerOn}
 use Rattle.rules.specs.Text.{text, digits, decimal}

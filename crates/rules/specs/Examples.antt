@@ -2,11 +2,9 @@
 use Prim.Native.Nat.{ℕ, _*_}
 use mathlib.Core.List.{List, [], _∷_, map}
 use Rattle.rules.specs.Calendar.{aprilFirst, daysInYear}
-use Rattle.rules.specs.declared.Band.{Band}
-use Rattle.rules.specs.declared.Transfer.{Transfer}
 use Rattle.rules.specs.declared.Condition.{Condition}
 use Rattle.rules.specs.declared.Read.{Read}
-use Rattle.rules.specs.File.{Meter, Supply, Point, Tariff, File, decode}
+use Rattle.rules.specs.File.{Meter, Supply, Point, Tariff, decode}
 use Rattle.rules.specs.Litres.{advance, meterLitres}
 use Rattle.rules.specs.Charges.{Charge, bandFor, costOf}
 use Rattle.rules.specs.Settlement.{amount, statement, providerCharge, rows}

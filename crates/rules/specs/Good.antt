@@ -1,6 +1,6 @@
 -- What an accepted file holds, in named fields: counts and ranges of each record, and lists that ascend. The stages after the check take their
 -- bounds from here; `proofs/Accepted` proves it of every file without a breach.
-use Prim.Native.Nat.{ℕ, suc, _+_, _*_, _≤_, _<_}
+use Prim.Native.Nat.{ℕ, _+_, _*_, _≤_, _<_}
 use Prim.{Unit}
 use mathlib.Core.Path.{_≡_}
 use mathlib.Core.List.{List, [], _∷_, map}
@@ -15,7 +15,7 @@ use Rattle.rules.specs.declared.MeterHead.{MeterHead}
 use Rattle.rules.specs.declared.Read.{Read}
 use Rattle.rules.specs.Lists.{All, Ascending}
 use Rattle.rules.specs.Calendar.{noDay}
-use Rattle.rules.specs.File.{Meter, Point, File, meterHead, pointHead, fileHeader, bandsAt, afterBands, afterPoints, decode}
+use Rattle.rules.specs.File.{Meter, Point, meterHead, pointHead, fileHeader, bandsAt, afterBands, afterPoints, decode}
 use Rattle.rules.specs.Litres.{dialValues}
 use Rattle.rules.specs.Refusal.{when}
 

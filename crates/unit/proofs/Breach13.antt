@@ -1,6 +1,6 @@
 -- Breach 13 after breaches 1 to 12, and the list of providers that the judge hands on. Assumes nothing.
 use Prim.Native.Nat.{ℕ, zero, suc, _≤_, _<_}
-use mathlib.Core.Bool.{Bool, true, false}
+use mathlib.Core.Bool.{true, false}
 use mathlib.Core.Path.{_≡_, refl, ap, sym, _∙_}
 use mathlib.Core.List.{List}
 use native.Mathlib.Omega.{arith}
@@ -8,7 +8,7 @@ use lib.ListN.{length, take}
 use lib.Seq.{length-take-le}
 use borrow.Author.Tests.{lt-ltb, le-ltb}
 use Rattle.rules.specs.File.{decode}
-use Rattle.rules.specs.Refusal.{when, firstOr, fileRefusal, refusal}
+use Rattle.rules.specs.Refusal.{firstOr, fileRefusal, refusal}
 use Rattle.rules.specs.Settlement.{providersOf}
 use Rattle.providers.specs.declared.Listed.{Listed}
 use Rattle.providers.specs.Listed.{InArray, Stands}

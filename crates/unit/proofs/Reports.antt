@@ -1,7 +1,7 @@
 -- The report service's answer by the refusal of the file, and the report of an accepted file by its rows. Assumes nothing.
 use Prim.Native.Nat.{ℕ, zero, suc}
 use mathlib.Core.Path.{_≡_, refl, sym, ap, ap₂, _∙_, subst}
-use mathlib.Core.List.{List, _++_}
+use mathlib.Core.List.{List}
 use lib.ListN.{length, take, drop}
 use lib.Seq.{take-at}
 use Rattle.rules.specs.declared.Header.{Header}

@@ -10,7 +10,7 @@ use Rattle.rules.specs.declared.Row.{Row}
 use Rattle.rules.specs.declared.RowsAnswer.{RowsAnswer}
 use Rattle.rules.specs.Sums.{only}
 use Rattle.rules.specs.File.{decode}
-use Rattle.rules.specs.Refusal.{when, firstOr, refusal}
+use Rattle.rules.specs.Refusal.{firstOr, refusal}
 use Rattle.rules.specs.Settlement.{rows, rowAnd, clearRow, providersOf}
 use Rattle.rules.specs.Services.{written, roomNumber, rowsNumber, rowsAnswer, rowsAfter}
 use Rattle.rules.proofs.Kept.{accepted-good}

@@ -2,7 +2,7 @@
 use Prim.Native.Nat.{ℕ}
 use mathlib.Core.Path.{_≡_}
 use mathlib.Core.List.{List}
-use lib.ListN.{length, take}
+use lib.ListN.{take}
 use Rattle.rules.specs.File.{decode}
 use Rattle.rules.specs.Refusal.{refusal}
 use Rattle.rules.specs.Settlement.{providersOf}

@@ -1,7 +1,5 @@
 -- `print_statements` meets its contract. Assumes nothing.
 use Prim.Native.Nat.{_≤_, _-_}
-use mathlib.Core.Path.{_≡_}
-use lib.ListN.{length}
 use borrow.Author.Needs.{needs}
 use Rattle.cases_main.proofs.print_statements.Statement.{statement}
 use Rattle.cases_main.proofs.print_statements.Tie as tie

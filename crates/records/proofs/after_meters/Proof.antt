@@ -1,5 +1,4 @@
 -- `records::after_meters` meets its contract: the meters that are left end where all do. Assumes nothing.
-use Prim.Native.Nat.{_<_}
 use mathlib.Core.Path.{refl}
 use native.Mathlib.Omega.{arith}
 use borrow.Author.Needs.{needs}

@@ -1,5 +1,5 @@
 -- `unit::statement_at` meets its contract: the answer is among the points that are left. Assumes nothing.
-use Prim.Native.Nat.{_-_, _<_, _≤_}
+use Prim.Native.Nat.{_-_}
 use denote.Ref.{now}
 use native.Mathlib.Omega.{arith}
 use borrow.Author.Needs.{needs}
