@@ -1,5 +1,5 @@
 -- The loop over a point's transfers: each has the days from its own entry up to the next one's, the last up to the end. Assumes nothing.
-use Prim.Native.Nat.{ℕ, suc, _+_, _-_, _^_, _≤_, _<_, min}
+use Prim.Native.Nat.{ℕ, suc, _+_, _-_, _^_, _≤_, _<_, min, zero-le}
 use mathlib.Core.Path.{_≡_, refl, sym, ap, _∙_, subst}
 use mathlib.Core.List.{List, [], _∷_, map}
 use native.Mathlib.Omega.{arith}
@@ -8,7 +8,7 @@ use Rattle.rules.specs.Lists.{Ascending, latest}
 use Rattle.rules.specs.Settlement.{providerOn}
 use Rattle.rules.specs.File.{Point, records, transferAt, afterTransfer, transfers, afterTransfers}
 use Rattle.rules.specs.Good.{FirstBy}
-use Rattle.rules.proofs.Lists.{latest-none, latest-here, latest-ahead}
+use Rattle.rules.proofs.Lists.{ascending-lower, latest-none, latest-here, latest-ahead}
 use Rattle.records.proofs.Positions.{forward}
 use Rattle.records.proofs.Ahead.{read-one, read-past}
 use Rattle.providers.specs.Runs.{firstEntry, SoundTransfers}
@@ -18,10 +18,6 @@ abbrev pub ownerBy : List Transfer → ℕ → ℕ → ℕ
 ownerBy ts start i = latest (λ t. t .day) (λ t. t .provider) 0 ts (start + i)
 
 -- A LIST of transfers
-ascending-later : (low : ℕ) (xs : List ℕ) → Ascending low xs → Ascending 0 xs
-ascending-later low [] up = tt
-ascending-later low (x ∷ xs) up = (omega arith, up .1)
-
 pub first-within : (n start : ℕ) (ts : List Transfer) → firstEntry n start ts ≤ n
 unfolding firstEntry
 first-within n start [] = omega arith
@@ -132,7 +128,7 @@ module _ (file : List ℕ) (start n : ℕ) where
       pub runs-turn : RunsLeft owner (left - 1) next
       runs-turn =
           record {
-            ascend = ascending-later (suc (t .day)) (map (λ t. t .day) later) (ascends .1);
+            ascend = ascending-lower (map (λ t. t .day) later) zero-le (ascends .1);
             owners = λ i a b. u .owners i (omega (arith, run-owner .forwards)) b ∙ (ap (λ ts. ownerBy ts start i) one ∙ owner-later n start t later ascends i a b);
             ends = omega (arith, past, u .ends);
           }
