@@ -1,9 +1,8 @@
-//! The day sheets of a point, and what is made of them.
+//! The day sheets of a point's meters.
 
-use shared::records::{Advance, Condition, Cursor, Meter, Point};
-use shared::records::{DISCONNECTED, PROPERTY, ROADS, VACANT};
-use shared::table::Table;
+use shared::records::{Advance, Cursor, Meter};
 use shared::year::Year;
+use std::ops::Range;
 
 /// An entry for each charged day.
 type Sheet = [u64; 366];
@@ -11,16 +10,9 @@ type Sheet = [u64; 366];
 pub struct Sheets {
     /// The first charged day, and how many there are.
     from: u64,
-    count: usize,
-    provider: Sheet,
-    /// All bits set where the day is not disconnected, and not vacant.
-    supplied: Sheet,
-    occupied: Sheet,
-    /// k where the day is not vacant, and else 0.
-    discounted: Sheet,
-    /// Value × k where the day has that drainage.
-    property: Sheet,
-    roads: Sheet,
+    pub count: usize,
+    /// Without a meter no sheet is filled, and none is summed.
+    metered: bool,
     litres: Sheet,
     /// Annual charge, allowance and threshold × share, of all meters.
     annual: Sheet,
@@ -28,22 +20,13 @@ pub struct Sheets {
     threshold: Sheet,
 }
 
-/// What a provider has of a point's days, with the sums of weights: of the
-/// meter, the litres, property and roads drainage.
+/// What some days have by the sheets.
 #[derive(Clone, Copy, Default)]
-struct Part {
-    days: u64,
-    litres: u64,
-    sums: [u64; 4],
-}
-
-/// What makes the basis of a point: the litres of days neither vacant nor
-/// disconnected, and the allowances and thresholds of days not vacant.
-#[derive(Clone, Copy, Default)]
-struct Sums {
-    volume: u64,
-    allowance: u64,
-    threshold: u64,
+pub struct Sums {
+    pub litres: u64,
+    pub annual: u64,
+    pub allowance: u64,
+    pub threshold: u64,
 }
 
 impl Sheets {
@@ -52,12 +35,7 @@ impl Sheets {
         Sheets {
             from: 0,
             count: 0,
-            provider: [0; 366],
-            supplied: [0; 366],
-            occupied: [0; 366],
-            discounted: [0; 366],
-            property: [0; 366],
-            roads: [0; 366],
+            metered: false,
             litres: [0; 366],
             annual: [0; 366],
             allowance: [0; 366],
@@ -67,75 +45,38 @@ impl Sheets {
 
     /// The entry of a day: 0 before the charged days, and the count after.
     #[inline(always)]
-    fn entry(&self, day: u64) -> usize {
+    pub fn entry(&self, day: u64) -> usize {
         (day.saturating_sub(self.from) as usize).min(self.count)
     }
 
-    /// Fills the sheets from a point's records. What they held of the point
-    /// before is overwritten.
+    /// Fills the sheets from the records of so many meters, for the days from
+    /// one on, before another. What they held of the point before is
+    /// overwritten, and no sheet is filled past the days.
     #[inline(always)]
-    pub fn fill(&mut self, year: &Year, point: &Point, cursor: &mut Cursor, from: u64, to: u64) {
+    pub fn fill(&mut self, year: &Year, meters: u64, cursor: &mut Cursor, from: u64, to: u64) {
         (self.from, self.count) = (from, ((to - from) as usize).min(366));
-        self.fill_providers(point, cursor);
-        self.fill_conditions(point, cursor);
-        for sheet in [&mut self.litres, &mut self.annual, &mut self.allowance, &mut self.threshold]
-        {
-            sheet[..self.count].fill(0);
+        self.metered = meters > 0;
+        if self.metered {
+            self.litres[..self.count].fill(0);
         }
-        for _ in 0..point.meters {
-            self.add_meter(year, cursor);
+        for place in 0..meters {
+            self.add_meter(year, cursor, place == 0);
         }
     }
 
-    /// Each transfer stands from its day to the next.
+    /// A meter's litres, and its band's figures on its meter days. Those of the
+    /// first meter are set and not added, so that nothing is cleared for them.
     #[inline(always)]
-    fn fill_providers(&mut self, point: &Point, cursor: &mut Cursor) {
-        let (mut from, mut provider) = (0, 0);
-        for _ in 0..point.transfers {
-            let transfer = cursor.transfer();
-            let end = self.entry(transfer.day);
-            set(&mut self.provider, from, end, provider);
-            (from, provider) = (end, transfer.provider);
-        }
-        set(&mut self.provider, from, self.count, provider);
-    }
-
-    /// Each condition stands from its day to the next.
-    #[inline(always)]
-    fn fill_conditions(&mut self, point: &Point, cursor: &mut Cursor) {
-        let none = Condition { day: 0, flags: 0, schedule3: 0, section29e: 0, value: 0 };
-        let (mut from, mut of_day) = (0, none);
-        for _ in 0..point.conditions {
-            let condition = cursor.condition();
-            let end = self.entry(condition.day);
-            self.set_condition(from, end, &of_day);
-            (from, of_day) = (end, condition);
-        }
-        self.set_condition(from, self.count, &of_day);
-    }
-
-    #[inline(always)]
-    fn set_condition(&mut self, from: usize, to: usize, condition: &Condition) {
-        let where_not = |flag: u64| if condition.flags & flag == 0 { u64::MAX } else { 0 };
-        let k = condition.k();
-        let drains = condition.value * k;
-        set(&mut self.supplied, from, to, where_not(DISCONNECTED));
-        set(&mut self.occupied, from, to, where_not(VACANT));
-        set(&mut self.discounted, from, to, k & where_not(VACANT));
-        set(&mut self.property, from, to, drains & !where_not(PROPERTY));
-        set(&mut self.roads, from, to, drains & !where_not(ROADS));
-    }
-
-    /// A meter's litres, and its band's figures on its meter days.
-    #[inline(always)]
-    fn add_meter(&mut self, year: &Year, cursor: &mut Cursor) {
+    fn add_meter(&mut self, year: &Year, cursor: &mut Cursor, first: bool) {
         let meter = cursor.meter();
-        if meter.size != 0 {
-            let band = year.band(meter.size);
-            let (from, to) = (self.entry(meter.installed), self.entry(meter.removed));
-            add(&mut self.annual, from, to, band.annual * meter.share);
-            add(&mut self.allowance, from, to, band.allowance * meter.share);
-            add(&mut self.threshold, from, to, band.threshold * meter.share);
+        let days = self.entry(meter.installed)..self.entry(meter.removed);
+        let sheets = [&mut self.annual, &mut self.allowance, &mut self.threshold];
+        for (sheet, figure) in sheets.into_iter().zip(figures(year, &meter)) {
+            if first {
+                set(&mut sheet[..self.count], days.clone(), figure);
+            } else if meter.size != 0 {
+                add(sheet, days.clone(), figure);
+            }
         }
         self.add_reads(&meter, cursor);
     }
@@ -172,96 +113,46 @@ impl Sheets {
         }
     }
 
-    /// What the days from an entry to another have, in one loop; what makes
-    /// the basis is added to its sums.
+    /// The sums of the sheets over some days, in one loop.
     #[inline(always)]
-    fn part(&self, from: usize, to: usize, basis: &mut Sums) -> Part {
-        let count = to - from;
-        let (supplied, occupied) = (&self.supplied[from..to], &self.occupied[from..to]);
-        let (litres, discounted) = (&self.litres[from..to], &self.discounted[from..to]);
-        let (property, roads) = (&self.property[from..to], &self.roads[from..to]);
-        let (allowance, threshold) = (&self.allowance[from..to], &self.threshold[from..to]);
-        let annual = &self.annual[from..to];
-        let mut part = Part { days: count as u64, ..Part::default() };
-        for day in 0..count {
-            // k is at most 10,000, which spares a part of each product
-            let k = u64::from(discounted[day] as u32);
-            let given = litres[day] & supplied[day];
-            part.litres += given;
-            part.sums[0] += annual[day] * k;
-            part.sums[1] += given * k;
-            part.sums[2] += property[day];
-            part.sums[3] += roads[day];
-            basis.volume += given & occupied[day];
-            basis.allowance += allowance[day] & occupied[day];
-            basis.threshold += threshold[day] & occupied[day];
+    pub fn sums(&self, days: Range<usize>) -> Sums {
+        let mut sums = Sums::default();
+        if !self.metered {
+            return sums;
         }
-        part
-    }
-
-    /// What each provider has of the days, at its place in the table, and the
-    /// sums of the basis. A provider is looked up once for each run of days.
-    #[inline(always)]
-    fn add_parts(&self, table: &Table, parts: &mut [Part; 64]) -> Sums {
-        let mut basis = Sums::default();
-        let provider = &self.provider[..self.count];
-        let mut from = 0;
-        while from < provider.len() {
-            let run = provider[from..].iter().take_while(|other| **other == provider[from]);
-            let to = from + run.count();
-            let more = self.part(from, to, &mut basis);
-            let part = &mut parts[table.place(provider[from]) & 63];
-            part.days += more.days;
-            part.litres += more.litres;
-            for (sum, more) in part.sums.iter_mut().zip(more.sums) {
-                *sum += more;
-            }
-            from = to;
+        let (litres, annual) = (&self.litres[days.clone()], &self.annual[days.clone()]);
+        let (allowance, threshold) = (&self.allowance[days.clone()], &self.threshold[days.clone()]);
+        for day in 0..days.len() {
+            sums.litres += litres[day];
+            sums.annual += annual[day];
+            sums.allowance += allowance[day];
+            sums.threshold += threshold[day];
         }
-        basis
-    }
-
-    /// "Order the providers ascending. A provider's charge is the floor of the
-    /// fractions summed up to and including it, less the floor of the sum
-    /// before it."
-    #[inline(always)]
-    pub fn share_out(&self, year: &Year, table: &mut Table) {
-        let mut parts = [Part::default(); 64];
-        let all = self.add_parts(table, &mut parts);
-        let basis = year.basis(all.volume, all.allowance, all.threshold);
-        let mut sums = [0; 4];
-        let mut before = [0; 4];
-        for (place, part) in parts[..table.count].iter().enumerate() {
-            if part.days == 0 {
-                continue;
-            }
-            for (sum, more) in sums.iter_mut().zip(part.sums) {
-                *sum += more;
-            }
-            let including = year.charges(&basis, &sums);
-            let row = table.at(place);
-            row.days += part.days;
-            row.litres += part.litres;
-            for charge in 0..4 {
-                row.charges[charge] += including[charge] - before[charge];
-            }
-            before = including;
-        }
+        sums
     }
 }
 
-/// The value stands on the days from an entry to another.
+/// Annual charge, allowance and threshold × share of a meter. One of size 0 has
+/// no band.
 #[inline(always)]
-fn set(sheet: &mut Sheet, from: usize, to: usize, value: u64) {
-    if let Some(days) = sheet.get_mut(from..to) {
-        days.fill(value);
+fn figures(year: &Year, meter: &Meter) -> [u64; 3] {
+    if meter.size == 0 {
+        return [0; 3];
     }
+    let band = year.band(meter.size);
+    [band.annual, band.allowance, band.threshold].map(|figure| figure * meter.share)
 }
 
-/// The value is added on them.
+/// The figure stands on some days, and 0 on those before and after them.
 #[inline(always)]
-fn add(sheet: &mut Sheet, from: usize, to: usize, value: u64) {
-    if let Some(days) = sheet.get_mut(from..to) {
-        days.iter_mut().for_each(|figure| *figure += value);
-    }
+fn set(sheet: &mut [u64], days: Range<usize>, figure: u64) {
+    sheet[..days.start].fill(0);
+    sheet[days.end..].fill(0);
+    sheet[days].fill(figure);
+}
+
+/// The figure is added on some days.
+#[inline(always)]
+fn add(sheet: &mut [u64], days: Range<usize>, figure: u64) {
+    sheet[days].iter_mut().for_each(|sum| *sum += figure);
 }
