@@ -1,9 +1,9 @@
 -- Passing over a point's lists: fixed widths by their count, and meters one by one. Assumes nothing.
 use Prim.Native.Nat.{ℕ, zero, suc, _+_, _-_, _*_, _^_, _≤_, _<_}
-use mathlib.Core.Path.{_≡_, sym, ap, _∙_}
+use mathlib.Core.Path.{_≡_, sym, ap, ap₂, _∙_}
 use mathlib.Core.List.{List}
 use native.Mathlib.Omega.{arith}
-use Rattle.rules.specs.declared.MeterHead.{MeterHead}
+use Rattle.bits.specs.Took.{Took}
 use Rattle.rules.specs.declared.PointHead.{PointHead}
 use Rattle.rules.specs.File.{records, after, readAt, meterHeadAt, meterAt, pointHeadAt, pointAt, transferAt, conditionAt, reads, meters, conditions, transfers, transfersFrom, readsFrom, afterMeter, afterMeters, afterTransfers, afterPoint}
 use Rattle.records.specs.Lists.{afterLists}
@@ -35,14 +35,14 @@ module _ (b : List ℕ) where
     unfolding records after
     meters-done h = let e : left ≡ 0 = omega arith in sym (ap (λ k. afterMeters at (meters b k at)) e) ∙ m .rest
 
-    -- past a meter and its reads
-    module _ {head : MeterHead} {next : ℕ} (h : 0 < left) (e : (head ≡ meterHeadAt b at) × (next ≡ readsFrom at)) where
-      past : next + head .reads * 44 ≡ afterMeter at (meterAt b at)
+    -- past a meter and its reads, the count of which is its last field
+    module _ {count next : ℕ} (h : 0 < left) (t : Took b (at + 66) 6 count next) where
+      past : next + count * 44 ≡ afterMeter at (meterAt b at)
       past =
-          ap (λ p. p + head .reads * 44) (e .1)
-          ∙ (ap (λ (m : MeterHead). readsFrom at + m .reads * 44) (e .0) ∙ sym (records-wide 44 (readAt b) (meterHeadAt b at .reads) (readsFrom at)))
+          ap₂ (λ (p n : ℕ). p + n * 44) {v = meterHeadAt b at .reads} (t .after ∙ omega arith) (t .is)
+          ∙ sym (records-wide 44 (readAt b) (meterHeadAt b at .reads) (readsFrom at))
 
-      pub meter-past : MetersLeft (left - 1) (next + head .reads * 44) end
+      pub meter-past : MetersLeft (left - 1) (next + count * 44) end
       meter-past = record { rest = ap (λ p. afterMeters p (meters b (left - 1) p)) past ∙ (meters-one left at h ∙ m .rest); small = m .small }
 
   -- past a point's conditions

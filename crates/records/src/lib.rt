@@ -196,7 +196,7 @@ pub fn read(file: &[u8], c: Cursor) -> TakenRead
     }
 }
 
-// The cursor after some meters and their reads.
+// The cursor after some meters and their reads. Of a meter only the count of its reads is taken: its last field, which ends its 72 bits.
 fn after_meters(file: &[u8], c: Cursor, count: u64) -> Cursor
     requires { ⌜ afterMeters (c .at) (meters (now file) count (c .at)) < 2 ^ 32 ⌝ }
     ensures { λ r. ⌜ r .at ≡ afterMeters (c .at) (meters (now (file .entry)) count (c .at)) ⌝ }
@@ -204,8 +204,9 @@ fn after_meters(file: &[u8], c: Cursor, count: u64) -> Cursor
     let mut at = c.at;
     let mut left = count;
     while 0 < left {
-        let taken = meter(file, Cursor { at });
-        let reads = taken.value.reads as usize;
+        let count_at = Cursor { at: at + 66 };
+        let taken = count_at.take(file, 6);
+        let reads = taken.value as usize;
         at = taken.next.at + reads * 44;
         left -= 1;
     }

@@ -16,14 +16,17 @@ abbrev μ-loop : tie.MeasureT-loop
 loop-holds : tie.Need-loop-holds Inv-loop μ-loop
 loop-holds c = record { rest = refl; small = c .before .pre }
 
-meter-requires : tie.Need-meter-requires Inv-loop μ-loop
-meter-requires c κs = meter-here _ (c .before .loop .inv)
+add-at : tie.Need-add-at Inv-loop μ-loop
+add-at c = omega (arith, meter-here _ (c .before .loop .inv))
+
+take-requires : tie.Need-take-requires Inv-loop μ-loop
+take-requires c κs = (search needs, omega (arith, meter-here _ (c .before .loop .inv)))
 
 mul-at : tie.Need-mul-at Inv-loop μ-loop
-mul-at c = omega (arith, meter-here _ (meter-past _ (c .before .before .loop .inv) (c .before .loop-test .taken) (c .meter .ensures)))
+mul-at c = omega (arith, meter-here _ (meter-past _ (c .before .before .loop .inv) (c .before .loop-test .taken) (c .take .ensures)))
 
-add-at : tie.Need-add-at Inv-loop μ-loop
-add-at c = omega (arith, meter-here _ (meter-past _ (c .before .before .before .loop .inv) (c .before .before .loop-test .taken) (c .before .meter .ensures)))
+add-at-2 : tie.Need-add-at-2 Inv-loop μ-loop
+add-at-2 c = omega (arith, meter-here _ (meter-past _ (c .before .before .before .loop .inv) (c .before .before .loop-test .taken) (c .before .take .ensures)))
 
 sub-left : tie.Need-sub-left Inv-loop μ-loop
 sub-left c = search needs
@@ -32,7 +35,7 @@ loop-less : tie.Need-loop-less Inv-loop μ-loop
 loop-less c = search needs
 
 loop-again : tie.Need-loop-again Inv-loop μ-loop
-loop-again c = meter-past _ (c .before .before .before .loop .inv) (c .before .before .loop-test .taken) (c .before .meter .ensures)
+loop-again c = meter-past _ (c .before .before .before .loop .inv) (c .before .before .loop-test .taken) (c .before .take .ensures)
 
 returns : tie.Need-returns Inv-loop μ-loop
 returns c = meters-done _ (c .before .loop .inv) (omega arith)
@@ -44,9 +47,10 @@ after-meters-spec =
     Inv-loop
     μ-loop
     loop-holds
-    meter-requires
-    mul-at
     add-at
+    take-requires
+    mul-at
+    add-at-2
     sub-left
     loop-less
     loop-again

@@ -3,15 +3,12 @@ use mathlib.Core.Path.{refl}
 use native.Mathlib.Omega.{arith}
 use borrow.Author.Needs.{needs}
 use denote.Ref.{now}
-use Rattle.bits.proofs.Fields.{field-none, one-shl-pos, field-of-eight}
+use Rattle.bits.proofs.Fields.{field-none, field-of-eight}
 use Rattle.bits.proofs.Cursor.take.Statement.{statement}
 use Rattle.bits.proofs.Cursor.take.Tie as tie
 
 returns : tie.Need-returns
 returns c = record { is = field-none _ _ (c .if1 .taken); after = omega arith }
-
-rem-t13 : tie.Need-rem-t13
-rem-t13 c = one-shl-pos _ (omega arith)
 
 returns-2 : tie.Need-returns-2
 returns-2 c =
@@ -30,6 +27,5 @@ take-spec =
     (λ c. search needs)
     (λ c. search needs)
     (λ c. search needs)
-    rem-t13
     (λ c. search needs)
     returns-2)
