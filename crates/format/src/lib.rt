@@ -114,6 +114,7 @@ pub fn check(file: &[u8]) -> u64
                     break 'file number;
                 }
                 c = meter.next;
+                let dial = judges::dial_values(meter.value.digits);
                 from = 0;
                 until = Day::NONE.0;
                 let mut before: u64 = 0;
@@ -124,6 +125,7 @@ pub fn check(file: &[u8]) -> u64
                         end,
                         read.next.at,
                         meter.value,
+                        dial,
                         from,
                         until,
                         before,

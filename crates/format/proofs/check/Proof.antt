@@ -28,10 +28,10 @@ abbrev μ-conditions : tie.MeasureT-conditions
 μ-conditions file end head number c₀ least i lowest p point number' from₀ until t k₀ c from k = point .value .conditions - k
 
 abbrev Inv-reads : tie.InvT-reads
-Inv-reads file end head number c₀ least i lowest p point number' from₀ until₀ t k m meter number'' before₀ r₀ c from until before r = At file (c .at) (readsLeft head p lowest (point .value) m (meter .value) r from until before)
+Inv-reads file end head number c₀ least i lowest p point number' from₀ until₀ t k m meter number'' dial before₀ r₀ c from until before r = At file (c .at) (readsLeft head p lowest (point .value) m (meter .value) r from until before)
 
 abbrev μ-reads : tie.MeasureT-reads
-μ-reads file end head number c₀ least i lowest p point number' from₀ until₀ t k m meter number'' before₀ r₀ c from until before r = meter .value .reads - r
+μ-reads file end head number c₀ least i lowest p point number' from₀ until₀ t k m meter number'' dial before₀ r₀ c from until before r = meter .value .reads - r
 
 abbrev Inv-meters : tie.InvT-meters
 Inv-meters file end head number c₀ least i lowest p point number' from₀ until₀ t k m₀ c from until m = At file (c .at) (metersLeft head p lowest (point .value) m)
@@ -137,24 +137,26 @@ check-spec =
     (λ c κs. omega arith)
     -- meter-number-requires
     (λ c κs. omega arith)
+    -- dial-values-requires
+    (λ c κs. let g = good-meter _ _ _ _ (sym (c .before .before .meter-number .ensures) ∙ c .before .if12 .left) .1 in omega arith)
     -- reads-holds
-    (λ c. goes-on (c .before .before .before .before .before .before .meters .inv) (c .before .before .before .before .if11 .taken) (c .before .before .before .meter .ensures) (c .before .before .meter-number .ensures) (c .before .if12 .left))
+    (λ c. goes-on (c .before .before .before .before .before .before .before .meters .inv) (c .before .before .before .before .before .if11 .taken) (c .before .before .before .before .meter .ensures) (c .before .before .before .meter-number .ensures) (c .before .before .if12 .left))
     -- read-requires
     (λ c κs. omega arith)
     -- read-number-requires
-    (λ c κs. let g = good-meter _ _ _ _ (sym (c .before .before .before .before .before .before .meter-number .ensures) ∙ c .before .before .before .before .before .if12 .left) .1 in (g .digitsFrom, g .digitsTo))
+    (λ c κs. c .before .before .before .before .dial-values .ensures)
     -- add-from-3
     (λ c. omega (arith, has-room (c .before .before .before .before .before .before .before .reads .inv) (c .before .before .before .before .before .if13 .taken) (c .before .before .before .before .read .ensures) (c .before .before .before .read-number .ensures)))
     -- add-until
     (λ c. omega (arith, has-room (c .before .before .before .before .before .before .before .before .reads .inv) (c .before .before .before .before .before .before .if13 .taken) (c .before .before .before .before .before .read .ensures) (c .before .before .before .before .read-number .ensures)))
     -- add-r
-    (λ c. omega (arith, c .before .before .before .before .before .before .before .before .before .before .before .before .meter .ok, c .before .before .before .before .before .before .if13 .taken))
+    (λ c. omega (arith, c .before .before .before .before .before .before .before .before .before .before .before .before .before .meter .ok, c .before .before .before .before .before .before .if13 .taken))
     -- reads-less
     (λ c. omega arith)
     -- reads-again
     (λ c. goes-on (c .before .before .before .before .before .before .before .before .reads .inv) (c .before .before .before .before .before .before .if13 .taken) (c .before .before .before .before .before .read .ensures) (c .before .before .before .before .read-number .ensures) (c .before .before .before .if14 .left))
     -- add-m
-    (λ c. omega (arith, c .before .before .before .before .before .before .before .before .before .before .before .before .before .before .before .before .before .before .before .before .point .ok, c .before .before .before .before .before .before .before .if11 .taken))
+    (λ c. omega (arith, c .before .before .before .before .before .before .before .before .before .before .before .before .before .before .before .before .before .before .before .before .before .point .ok, c .before .before .before .before .before .before .before .before .if11 .taken))
     -- meters-less
     (λ c. omega arith)
     -- meters-again
