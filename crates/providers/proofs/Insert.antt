@@ -1,14 +1,14 @@
 -- Where an ascending list takes a number, and the array that then holds it. Assumes nothing.
 use Prim.Native.Nat.{ℕ, zero, suc, _+_, _-_, _≤_, _<_}
-use mathlib.Core.Path.{_≡_, refl, ap, sym, _∙_}
+use mathlib.Core.Path.{_≡_, refl, ap, sym, _∙_, subst}
 use mathlib.Core.Logic.{⊎-elim}
 use mathlib.Core.List.{List, [], _∷_, _++_}
 use native.Mathlib.Omega.{arith}
 use lib.ListN.{length, getD, set, take, drop, length-set, length-drop, length-append, take-append-drop, List·getD-append}
-use lib.Seq.{drop-cons, length-take-le, getD-take, getD-drop, getD-set-same, getD-set-other, getD-append-add, getD-append-seam, ext-getD}
+use lib.Seq.{take-all, drop-cons, length-take-le, getD-take, getD-drop, getD-set-same, getD-set-other, getD-append-add, getD-append-seam, ext-getD}
 use borrow.Author.Tests.{lt-ltb, le-ltb, eq-eqb, ne-eqb}
-use Rattle.rules.specs.Lists.{insert}
-use Rattle.rules.proofs.Lists.{three}
+use Rattle.rules.specs.Lists.{Ascending, insert}
+use Rattle.rules.proofs.Lists.{three, insert-ascends}
 use Rattle.providers.specs.Listed.{Lent, Holds, With, Placed, MovedUp, insertRun}
 
 -- a number goes past those below it
@@ -134,15 +134,26 @@ module _ (list : List ℕ) (count p : ℕ) (lent : Lent list count) where
       pub over-now : count ≡ 64 → With (insert p) list count list 65
       over-now full =
           record {
-            lent = record { few = omega arith; long = lent .long };
+            lent =
+                record {
+                  few = omega arith;
+                  long = lent .long;
+                  ascend = subst (Ascending 0) (take-all count list (omega (arith, lent .long)) ∙ sym (take-all 65 list (omega (arith, lent .long)))) (lent .ascend);
+                };
             holds = λ qs s. omega (arith, longer list count p at within placed absent, ap (λ xs. length (insert p xs)) (own qs s));
           }
 
       pub one-more : count < 64 → (out : List ℕ) → MovedUp list out at count → With (insert p) list count (set out at p) (count + 1)
       one-more room out moved =
+          let all = held list count p at within placed absent out moved (omega (arith, lent .long)) in
           record {
-            lent = record { few = omega arith; long = simp length-set (moved .long ∙ lent .long) };
-            holds = λ qs s. rw (le-ltb 64 (count + 1) (omega arith)) (held list count p at within placed absent out moved (omega (arith, lent .long)) ∙ ap (insert p) (own qs s));
+            lent =
+                record {
+                  few = omega arith;
+                  long = simp length-set (moved .long ∙ lent .long);
+                  ascend = subst (Ascending 0) (sym all) (insert-ascends p 0 (take count list) (omega arith) (lent .ascend));
+                };
+            holds = λ qs s. rw (le-ltb 64 (count + 1) (omega arith)) (all ∙ ap (insert p) (own qs s));
           }
 
 -- a run of days, whose provider is put in where it has one

@@ -102,7 +102,7 @@ module _ (b : List ℕ) where
         from = year-from b g e;
         to = year-to b g e;
         points = points-start b g e;
-        lent = record { few = omega arith; long = long };
+        lent = record { few = omega arith; long = long; ascend = tt };
         so-far = [];
         holds = refl;
         whole = ap (providersAnd (decode b .tariff) []) (file-points b g e);

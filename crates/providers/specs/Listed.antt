@@ -5,7 +5,7 @@ use mathlib.Core.Path.{_≡_}
 use mathlib.Core.List.{List}
 use lib.Dec.{ltb}
 use lib.ListN.{length, getD, take}
-use Rattle.rules.specs.Lists.{insert}
+use Rattle.rules.specs.Lists.{Ascending, insert}
 use Rattle.rules.specs.File.{Tariff, Point, pointAt, afterPoint}
 use Rattle.rules.specs.Charges.{chargedFrom, chargedCount}
 use Rattle.rules.specs.Settlement.{insertDays}
@@ -24,10 +24,11 @@ StandsWhere true list count ps = 64 < length ps
 abbrev pub Stands : Listed → List ℕ → Type 0
 Stands l ps = StandsWhere (l .over) (l .list) (l .count) ps
 
--- A LENT LIST: an array of 64 and a count, which is above 64 where there was no room for one more
+-- A LENT LIST: an array of 64 whose first numbers ascend, and their count, which is above 64 where there was no room for one more
 pub record Lent (list : List ℕ) (count : ℕ) : Type 0 where
   pub few : count ≤ 65
   pub long : length list ≡ 64
+  pub ascend : Ascending 0 (take count list)
 
 abbrev pub Holds : List ℕ → ℕ → List ℕ → Type 0
 Holds list count ps = StandsWhere (ltb 64 count) list count ps
