@@ -9,7 +9,8 @@ use lib.Seq.{take-all, drop-cons, length-take-le, getD-take, getD-drop, getD-set
 use borrow.Author.Tests.{lt-ltb, le-ltb, eq-eqb, ne-eqb}
 use Rattle.rules.specs.Lists.{Ascending, insert}
 use Rattle.rules.proofs.Lists.{three, insert-ascends}
-use Rattle.providers.specs.Listed.{Lent, Holds, With, Placed, MovedUp, insertRun}
+use Rattle.providers.proofs.Halving.{ascends}
+use Rattle.providers.specs.Listed.{Lent, Holds, With, Ascends, Placed, MovedUp, insertRun}
 
 -- a number goes past those below it
 pub insert-past : (p r : ℕ) (xs : List ℕ) → ((k : ℕ) → k < r → getD xs k 0 < p) → r ≤ length xs → insert p xs ≡ take r xs ++ insert p (drop r xs)
@@ -106,6 +107,11 @@ module _ (list : List ℕ) (count p at : ℕ) (few : count ≤ length list) (pla
           let size : length (take (count + 1) (set out at p)) ≡ count + 1 = length-take-le (count + 1) (set out at p) (simp length-set (omega (arith, moved .long))) in
           ext-getD 0 (take (count + 1) (set out at p)) (insert p ps) (size ∙ sym longer)
           (λ i h. getD-take (count + 1) (set out at p) i 0 (omega (arith, size)) ∙ (each i (omega (arith, size)) ∙ ap (λ ys. getD ys i 0) (sym put)))
+
+-- what `place` asks of a list that is not over
+pub lent-ascends : {list : List ℕ} {count : ℕ} → Lent list count → count ≤ 64 → Ascends list count
+lent-ascends {list} {count} lent few i j h l =
+    omega (arith, ascends 0 (take count list) (lent .ascend) i j h (omega (arith, length-take-le count list (omega (arith, lent .long)))), getD-take count list i 0 (omega arith), getD-take count list j 0 l)
 
 -- THE FOUR ANSWERS of a list with one number more
 module _ (list : List ℕ) (count p : ℕ) (lent : Lent list count) where

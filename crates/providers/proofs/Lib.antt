@@ -1,4 +1,5 @@
 pub mod Shift
+pub mod Halving
 pub mod Insert
 pub mod Runs
 pub mod Days

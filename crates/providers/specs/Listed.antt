@@ -38,6 +38,10 @@ pub record With (grown : List ℕ → List ℕ) (before : List ℕ) (count : ℕ
   pub lent : Lent after more
   pub holds : (ps : List ℕ) → Holds before count ps → Holds after more (grown ps)
 
+-- the first `count` numbers ascend
+abbrev pub Ascends : List ℕ → ℕ → Type 0
+Ascends list count = (i j : ℕ) → i < j → j < count → getD list i 0 < getD list j 0
+
 -- the first place of the `count` first whose number is not below p
 pub record Placed (list : List ℕ) (count p at : ℕ) : Type 0 where
   pub within : at ≤ count

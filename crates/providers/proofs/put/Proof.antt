@@ -2,7 +2,7 @@
 use mathlib.Core.Logic.{⊎-elim}
 use native.Mathlib.Omega.{arith}
 use denote.Ref.{now}
-use Rattle.providers.proofs.Insert.{over-kept, there-kept, over-now, one-more}
+use Rattle.providers.proofs.Insert.{lent-ascends, over-kept, there-kept, over-now, one-more}
 use borrow.Author.Needs.{needs}
 use Rattle.providers.proofs.put.Statement.{statement}
 use Rattle.providers.proofs.put.Tie as tie
@@ -13,7 +13,7 @@ returns c =
     over-kept (now (s .args .list)) (s .args .count) (s .args .p) (s .pre) (c .if1 .taken)
 
 place-requires : tie.Need-place-requires
-place-requires c κs = search needs
+place-requires c κs = (search needs, lent-ascends (c .before .before .before .pre) (omega arith))
 
 mul-if3 : tie.Need-mul-if3
 mul-if3 c = search needs

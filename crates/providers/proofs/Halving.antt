@@ -1,0 +1,65 @@
+-- The place of a number in an ascending list, by halving what is left of it. Assumes nothing.
+use Prim.Native.Nat.{ℕ, zero, suc, _+_, _-_, _*_, _≤_, _<_}
+use mathlib.Core.Bool.{cond}
+use mathlib.Core.Path.{_≡_, ap}
+use mathlib.Core.List.{List, [], _∷_}
+use native.Mathlib.Omega.{arith}
+use native.Mathlib.Decide.{decLt}
+use lib.Dec.{ltb}
+use lib.ListN.{length, getD}
+use borrow.Author.Tests.{lt-ltb, le-ltb}
+use Rattle.rules.specs.Lists.{Ascending}
+use Rattle.providers.specs.Listed.{Ascends, Placed}
+
+-- an ascending list by its places
+from-low : (low : ℕ) (xs : List ℕ) → Ascending low xs → (i : ℕ) → i < length xs → low ≤ getD xs i 0
+from-low low [] up i h = absurd (omega arith)
+from-low low (x ∷ xs) up zero h = up .0
+from-low low (x ∷ xs) up (suc i) h = omega (arith, up .0, from-low (suc x) xs (up .1) i (omega arith))
+
+pub ascends : (low : ℕ) (xs : List ℕ) → Ascending low xs → Ascends xs (length xs)
+ascends low [] up i j h k = absurd (omega arith)
+ascends low (x ∷ xs) up i zero h k = absurd (omega arith)
+ascends low (x ∷ xs) up zero (suc j) h k = from-low (suc x) xs (up .1) j (omega arith)
+ascends low (x ∷ xs) up (suc i) (suc j) h k = ascends (suc x) xs (up .1) i j (omega arith) (omega arith)
+
+pub ordered : (list : List ℕ) (count : ℕ) → Ascends list count → (i j : ℕ) → i ≤ j → j < count → getD list i 0 ≤ getD list j 0
+ordered list count up i j h k = elim (decLt i j) [
+  | yes l ↦ omega (arith, up i j l k)
+  | no l ↦ let e : i ≡ j = omega arith in omega (arith, ap (λ m. getD list m 0) e)
+]
+
+-- of the first `count` numbers those before `low` are below p, and those behind what is left are not
+pub record Halving (list : List ℕ) (count p low left : ℕ) : Type 0 where
+  pub within : low + left ≤ count
+  pub below : (k : ℕ) → k < low → getD list k 0 < p
+  pub above : (k : ℕ) → low + left ≤ k → k < count → p ≤ getD list k 0
+
+module _ {list : List ℕ} {count p : ℕ} where
+  pub halving-begin : Halving list count p 0 count
+  halving-begin = record { within = omega arith; below = λ k h. absurd (omega arith); above = λ k h l. absurd (omega arith) }
+
+  pub halving-end : {low left : ℕ} → Halving list count p low left → left ≡ 0 → Placed list count p low
+  halving-end {low} u e = record { within = omega (arith, u .within); below = u .below; here = λ h. u .above low (omega arith) h }
+
+  -- one turn: the last number of a half tells in which half the place is. One number that is left alone is taken for a half.
+  module _ (up : Ascends list count) {low left : ℕ} (u : Halving list count p low left) where
+    pub halving-turn : {half next : ℕ} (last : ℕ) → 1 ≤ half → 2 * half ≤ left + 1 → last + 1 ≡ low + half →
+        next ≡ cond (ltb (getD list last 0) p) (low + half) low → Halving list count p next (left - half)
+    halving-turn {half} {next} last some small is e = go (decLt (getD list last 0) p)
+      where
+        go : Dec (getD list last 0 < p) → Halving list count p next (left - half)
+        go (yes l) =
+            rw (e, lt-ltb (getD list last 0) p l)
+            record {
+              within = omega (arith, u .within);
+              below = λ k h. omega (arith, ordered list count up k last (omega arith) (omega (arith, u .within)));
+              above = λ k h m. u .above k (omega arith) m;
+            }
+        go (no l) =
+            rw (e, le-ltb (getD list last 0) p (omega arith))
+            record {
+              within = omega (arith, u .within);
+              below = u .below;
+              above = λ k h m. omega (arith, ordered list count up last k (omega arith) m);
+            }
