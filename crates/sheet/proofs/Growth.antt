@@ -1,18 +1,20 @@
--- Laws of sheets that are added to. Assumes nothing.
-use Prim.Native.Nat.{ℕ, _+_, _-_, _*_, _/_, _≤_, _<_, _^_, min}
+-- Laws of sheets that are set or added to. Assumes nothing.
+use Prim.Native.Nat.{ℕ, _+_, _-_, _*_, _/_, _≤_, _<_, _^_, min, zero-le}
 use mathlib.Core.Path.{_≡_, refl, sym, ap, ap₂, _∙_, subst}
+use mathlib.Core.Bool.{true}
 use mathlib.Core.List.{List}
 use native.Mathlib.Nat.{le-refl, mul-le-mul, mul-le-mul-left, mul-comm, mul-right-comm, mul-zero, zero-div, div-le-of-le-mul, mul-div-mul-right}
 use native.Mathlib.Decide.{decLt}
 use native.Mathlib.Omega.{arith}
 use borrow.Author.Tests.{le-leb, lt-leb, lt-ltb, le-ltb}
-use lib.ListN.{length, getD, set}
+use lib.ListN.{length, getD, set, length-replicate, getD-replicate}
+use lib.Seq.{ext-getD}
 use Rattle.rules.specs.Sums.{only}
 use Rattle.rules.specs.Litres.{carriedBefore}
 use Rattle.rules.proofs.Shares.{div-mono}
-use Rattle.sheet.specs.Sheets.{Grown, Room}
+use Rattle.sheet.specs.Sheets.{Written, Filled, Grown, Room, counted}
 use Rattle.sheet.specs.Meters.{during, carried, spread, Spreadable}
-use Rattle.sheet.proofs.Laws.{Written, written-none, written-more}
+use Rattle.sheet.proofs.Laws.{written-none, written-more}
 
 -- a figure on some days
 module _ (first last x d : ℕ) where
@@ -80,6 +82,35 @@ module _ {l : List ℕ} {start first last : ℕ} (x : ℕ → ℕ) {lo : ℕ} wh
             ]
           ];
         }
+
+-- a figure that is set: 0 before its days, the figure on them, 0 after them
+pub set-days : {l a b s : List ℕ} {start x lo t : ℕ} (first last : ℕ) → lo ≡ min (first - start) (length l) → t ≡ min (last - start) (length l) →
+    Written l a (λ i. 0) 0 lo → Written a b (λ i. x) lo t → Written b s (λ i. 0) t (length b) → Filled l s start (during first last x)
+set-days {start = start} {x} {lo} {t} first last low top u v w =
+    record {
+      long = w .long ∙ v .long ∙ u .long;
+      each = λ i k. elim (decLt i t) [
+        | yes lt ↦ w .under i lt ∙ elim (decLt i lo) [
+          | yes lt′ ↦ v .under i lt′ ∙ u .inside i zero-le lt′ ∙ sym (during-before first last x (start + i) (omega arith))
+          | no ge ↦ v .inside i (omega arith) lt ∙ sym (during-in first last x (start + i) (omega arith) (omega arith))
+        ]
+        | no ge ↦ w .inside i (omega arith) (omega (arith, u .long, v .long)) ∙ sym (during-after first last x (start + i) (omega arith))
+      ];
+    }
+
+-- FRESH SHEETS, of which nothing counts
+pub counted-none : (l : List ℕ) → Filled l (counted true l) 0 (λ d. 0)
+counted-none l = record { long = length-replicate (length l) 0; each = λ i h. getD-replicate (length l) i 0 0 h }
+
+pub cleared-counted : {l a : List ℕ} → Filled l a 0 (λ d. 0) → a ≡ counted true l
+cleared-counted {l} {a} f =
+    let none = counted-none l in
+    ext-getD 0 a (counted true l) (f .long ∙ sym (none .long)) (λ i h. let k : i < length l = omega (arith, f .long) in f .each i k ∙ sym (none .each i k))
+
+pub set-grown : {l a : List ℕ} {start : ℕ} {f : ℕ → ℕ} → Filled l a start f → Grown (counted true l) a start f
+set-grown {l} p =
+    let none = counted-none l in
+    record { long = p .long ∙ sym (none .long); each = λ i h. let k : i < length l = omega (arith, none .long) in omega (arith, p .each i k, none .each i k) }
 
 -- growth by a function that is the same
 pub grown-as : {a b : List ℕ} {start : ℕ} {f g : ℕ → ℕ} → ((d : ℕ) → f d ≡ g d) → Grown a b start f → Grown a b start g

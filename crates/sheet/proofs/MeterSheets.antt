@@ -17,9 +17,9 @@ use Rattle.rules.specs.Litres.{advance, litresPerCount, fromReads, meterLitres}
 use Rattle.rules.specs.Charges.{noBand, firstBand, bandFor}
 use Rattle.rules.specs.Good.{GoodBand, GoodRead, GoodAdvance, GoodAdvances, GoodMeter}
 use Rattle.rules.proofs.Lists.{latest-all}
-use Rattle.sheet.specs.Sheets.{Filled, Grown, Room}
+use Rattle.sheet.specs.Sheets.{Filled, Grown, Room, counted}
 use Rattle.sheet.specs.Meters.{during, Spreadable, meterOf, weighed, MeterSheet, litresSheet, annualSheet, allowanceSheet, thresholdSheet, meterFigure, four, MeterRoom, MeterAdded, MetersFilled}
-use Rattle.sheet.proofs.Growth.{during-most, grown-as, room-as, Rest, rest-all, rest-room, rest-more, rest-none, spread-most, amount-fits}
+use Rattle.sheet.proofs.Growth.{during-most, counted-none, grown-as, room-as, Rest, rest-all, rest-room, rest-more, rest-none, spread-most, amount-fits}
 use Rattle.sheet.proofs.Readings.{advance-fits, spreadable, between-is}
 
 -- a figure of a band: 0 where there is none, and at most 10 ^ 9
@@ -140,15 +140,15 @@ pub record MetersLeft (before after : MeterSheet → List ℕ) (start : ℕ) (bs
   pub room : (s : MeterSheet) → Room (before s) start (λ d. over all (λ m. meterFigure bs s m d))
   pub rest : (s : MeterSheet) → Rest (before s) (after s) start (λ d. over left (λ m. meterFigure bs s m d)) (λ d. over all (λ m. meterFigure bs s m d))
 
--- the sheets are cleared before the first
+-- before the first the litres are cleared, and of the figures nothing counts
 abbrev pub Cleared : (MeterSheet → List ℕ) → (MeterSheet → List ℕ) → Type 0
 Cleared before after = (s : MeterSheet) → Filled (before s) (after s) 0 (λ d. 0)
 
-pub cleared : {l n a t l′ n′ a′ t′ : List ℕ} → Filled l l′ 0 (λ d. 0) → Filled n n′ 0 (λ d. 0) → Filled a a′ 0 (λ d. 0) → Filled t t′ 0 (λ d. 0) → Cleared (four l n a t) (four l′ n′ a′ t′)
-cleared fl fn fa ft litresSheet = fl
-cleared fl fn fa ft annualSheet = fn
-cleared fl fn fa ft allowanceSheet = fa
-cleared fl fn fa ft thresholdSheet = ft
+pub cleared : {l l′ : List ℕ} (n a t : List ℕ) → Filled l l′ 0 (λ d. 0) → Cleared (four l n a t) (four l′ (counted true n) (counted true a) (counted true t))
+cleared n a t fl litresSheet = fl
+cleared n a t fl annualSheet = counted-none n
+cleared n a t fl allowanceSheet = counted-none a
+cleared n a t fl thresholdSheet = counted-none t
 
 module _ {l a : MeterSheet → List ℕ} {start : ℕ} (o : Cleared l a) where
   pub meters-begin : {bs : List Band} {ms : List Meter} → All GoodBand bs → All GoodMeter ms → length ms ≤ 16 → MetersLeft a a start bs ms ms

@@ -15,23 +15,23 @@ meter-requires c κs = let s = c .before .before .before .before .before .args i
 band-for-requires : tie.Need-band-for-requires
 band-for-requires c κs = search needs
 
-mul-add-during : tie.Need-mul-add-during
-mul-add-during c = let s = c .before .before .before .before .before .before .before .before .before .before .before .args in let p = c .before .before .before .before .before .before .before .before .before .before .before .pre in omega (arith, weight-fits (now (s .file)) (s .c .at) (c .before .before .before .before .before .meter .ensures) (bands (now (s .file)) (s .count) (s .tariff .at)) (c .before .before .before .band-for .ensures) annual-figure (p .1 .1 .1 .0) (p .1 .1 .0))
+mul-put-during : tie.Need-mul-put-during
+mul-put-during c = let s = c .before .before .before .before .before .before .before .before .before .before .before .args in let p = c .before .before .before .before .before .before .before .before .before .before .before .pre in omega (arith, weight-fits (now (s .file)) (s .c .at) (c .before .before .before .before .before .meter .ensures) (bands (now (s .file)) (s .count) (s .tariff .at)) (c .before .before .before .band-for .ensures) annual-figure (p .1 .1 .1 .0) (p .1 .1 .0))
 
-add-during-requires : tie.Need-add-during-requires
-add-during-requires c κs = let s = c .before .before .before .before .before .before .before .before .before .before .before .args in weight-room (now (s .file)) (s .c .at) (c .before .before .before .before .before .meter .ensures) (bands (now (s .file)) (s .count) (s .tariff .at)) (c .before .before .before .band-for .ensures) (λ b. b .annual) (c .before .before .before .before .before .before .before .before .before .before .before .pre .1 .1 .1 .1 annualSheet)
+put-during-requires : tie.Need-put-during-requires
+put-during-requires c κs = let s = c .before .before .before .before .before .before .before .before .before .before .before .args in weight-room (now (s .file)) (s .c .at) (c .before .before .before .before .before .meter .ensures) (bands (now (s .file)) (s .count) (s .tariff .at)) (c .before .before .before .band-for .ensures) (λ b. b .annual) (c .before .before .before .before .before .before .before .before .before .before .before .pre .1 .1 .1 .1 annualSheet)
 
-mul-add-during-2 : tie.Need-mul-add-during-2
-mul-add-during-2 c = let s = c .before .before .before .before .before .before .before .before .before .before .before .before .before .before .before .before .before .args in let p = c .before .before .before .before .before .before .before .before .before .before .before .before .before .before .before .before .before .pre in omega (arith, weight-fits (now (s .file)) (s .c .at) (c .before .before .before .before .before .before .before .before .before .before .before .meter .ensures) (bands (now (s .file)) (s .count) (s .tariff .at)) (c .before .before .before .before .before .before .before .before .before .band-for .ensures) allowance-figure (p .1 .1 .1 .0) (p .1 .1 .0))
+mul-put-during-2 : tie.Need-mul-put-during-2
+mul-put-during-2 c = let s = c .before .before .before .before .before .before .before .before .before .before .before .before .before .before .before .before .before .args in let p = c .before .before .before .before .before .before .before .before .before .before .before .before .before .before .before .before .before .pre in omega (arith, weight-fits (now (s .file)) (s .c .at) (c .before .before .before .before .before .before .before .before .before .before .before .meter .ensures) (bands (now (s .file)) (s .count) (s .tariff .at)) (c .before .before .before .before .before .before .before .before .before .band-for .ensures) allowance-figure (p .1 .1 .1 .0) (p .1 .1 .0))
 
-add-during-requires-2 : tie.Need-add-during-requires-2
-add-during-requires-2 c κs = let s = c .before .before .before .before .before .before .before .before .before .before .before .before .before .before .before .before .before .args in weight-room (now (s .file)) (s .c .at) (c .before .before .before .before .before .before .before .before .before .before .before .meter .ensures) (bands (now (s .file)) (s .count) (s .tariff .at)) (c .before .before .before .before .before .before .before .before .before .band-for .ensures) (λ b. b .allowance) (c .before .before .before .before .before .before .before .before .before .before .before .before .before .before .before .before .before .pre .1 .1 .1 .1 allowanceSheet)
+put-during-requires-2 : tie.Need-put-during-requires-2
+put-during-requires-2 c κs = let s = c .before .before .before .before .before .before .before .before .before .before .before .before .before .before .before .before .before .args in weight-room (now (s .file)) (s .c .at) (c .before .before .before .before .before .before .before .before .before .before .before .meter .ensures) (bands (now (s .file)) (s .count) (s .tariff .at)) (c .before .before .before .before .before .before .before .before .before .band-for .ensures) (λ b. b .allowance) (c .before .before .before .before .before .before .before .before .before .before .before .before .before .before .before .before .before .pre .1 .1 .1 .1 allowanceSheet)
 
-mul-add-during-3 : tie.Need-mul-add-during-3
-mul-add-during-3 c = let s = c .before .before .before .before .before .before .before .before .before .before .before .before .before .before .before .before .before .before .before .before .before .before .before .args in let p = c .before .before .before .before .before .before .before .before .before .before .before .before .before .before .before .before .before .before .before .before .before .before .before .pre in omega (arith, weight-fits (now (s .file)) (s .c .at) (c .before .before .before .before .before .before .before .before .before .before .before .before .before .before .before .before .before .meter .ensures) (bands (now (s .file)) (s .count) (s .tariff .at)) (c .before .before .before .before .before .before .before .before .before .before .before .before .before .before .before .band-for .ensures) threshold-figure (p .1 .1 .1 .0) (p .1 .1 .0))
+mul-put-during-3 : tie.Need-mul-put-during-3
+mul-put-during-3 c = let s = c .before .before .before .before .before .before .before .before .before .before .before .before .before .before .before .before .before .before .before .before .before .before .before .args in let p = c .before .before .before .before .before .before .before .before .before .before .before .before .before .before .before .before .before .before .before .before .before .before .before .pre in omega (arith, weight-fits (now (s .file)) (s .c .at) (c .before .before .before .before .before .before .before .before .before .before .before .before .before .before .before .before .before .meter .ensures) (bands (now (s .file)) (s .count) (s .tariff .at)) (c .before .before .before .before .before .before .before .before .before .before .before .before .before .before .before .band-for .ensures) threshold-figure (p .1 .1 .1 .0) (p .1 .1 .0))
 
-add-during-requires-3 : tie.Need-add-during-requires-3
-add-during-requires-3 c κs = let s = c .before .before .before .before .before .before .before .before .before .before .before .before .before .before .before .before .before .before .before .before .before .before .before .args in weight-room (now (s .file)) (s .c .at) (c .before .before .before .before .before .before .before .before .before .before .before .before .before .before .before .before .before .meter .ensures) (bands (now (s .file)) (s .count) (s .tariff .at)) (c .before .before .before .before .before .before .before .before .before .before .before .before .before .before .before .band-for .ensures) (λ b. b .threshold) (c .before .before .before .before .before .before .before .before .before .before .before .before .before .before .before .before .before .before .before .before .before .before .before .pre .1 .1 .1 .1 thresholdSheet)
+put-during-requires-3 : tie.Need-put-during-requires-3
+put-during-requires-3 c κs = let s = c .before .before .before .before .before .before .before .before .before .before .before .before .before .before .before .before .before .before .before .before .before .before .before .args in weight-room (now (s .file)) (s .c .at) (c .before .before .before .before .before .before .before .before .before .before .before .before .before .before .before .before .before .meter .ensures) (bands (now (s .file)) (s .count) (s .tariff .at)) (c .before .before .before .before .before .before .before .before .before .before .before .before .before .before .before .band-for .ensures) (λ b. b .threshold) (c .before .before .before .before .before .before .before .before .before .before .before .before .before .before .before .before .before .before .before .before .before .before .before .pre .1 .1 .1 .1 thresholdSheet)
 
 add-reads-requires : tie.Need-add-reads-requires
 add-reads-requires c κs = let s = c .before .before .before .before .before .before .before .before .before .before .before .before .before .before .before .before .before .before .before .before .before .before .before .before .before .before .before .args in let p = c .before .before .before .before .before .before .before .before .before .before .before .before .before .before .before .before .before .before .before .before .before .before .before .before .before .before .before .pre in meter-asks (now (s .file)) (s .c .at) (c .before .before .before .before .before .before .before .before .before .before .before .before .before .before .before .before .before .before .before .before .before .meter .ensures) (p .0) (p .1 .1 .0) (p .1 .1 .1 .1 litresSheet)
@@ -49,7 +49,7 @@ same-length-4 : tie.Need-same-length-4
 same-length-4 c = search needs
 
 returns : tie.Need-returns
-returns c = let s = c .before .before .before .before .before .before .before .before .before .before .before .before .before .before .before .before .before .before .before .before .before .before .before .before .before .before .before .before .before .before .args in meter-added (now (s .file)) (s .c .at) (c .before .before .before .before .before .before .before .before .before .before .before .before .before .before .before .before .before .before .before .before .before .before .before .before .meter .ensures) (bands (now (s .file)) (s .count) (s .tariff .at)) (c .before .before .before .before .before .before .before .before .before .before .before .before .before .before .before .before .before .before .before .before .before .before .band-for .ensures) (c .before .before .add-reads .ensures) (c .before .before .before .before .before .before .before .before .before .before .before .before .before .before .before .before .before .before .add-during .ensures) (c .before .before .before .before .before .before .before .before .before .before .before .before .add-during2 .ensures) (c .before .before .before .before .before .before .add-during3 .ensures)
+returns c = let s = c .before .before .before .before .before .before .before .before .before .before .before .before .before .before .before .before .before .before .before .before .before .before .before .before .before .before .before .before .before .before .args in meter-added (now (s .file)) (s .c .at) (c .before .before .before .before .before .before .before .before .before .before .before .before .before .before .before .before .before .before .before .before .before .before .before .before .meter .ensures) (bands (now (s .file)) (s .count) (s .tariff .at)) (c .before .before .before .before .before .before .before .before .before .before .before .before .before .before .before .before .before .before .before .before .before .before .band-for .ensures) (c .before .before .add-reads .ensures) (c .before .before .before .before .before .before .before .before .before .before .before .before .before .before .before .before .before .before .put-during .ensures) (c .before .before .before .before .before .before .before .before .before .before .before .before .put-during2 .ensures) (c .before .before .before .before .before .before .put-during3 .ensures)
 
 pub add-meter-spec : {M : Type 1} → statement M
 add-meter-spec =
@@ -57,12 +57,12 @@ add-meter-spec =
     (tie.spec
     meter-requires
     band-for-requires
-    mul-add-during
-    add-during-requires
-    mul-add-during-2
-    add-during-requires-2
-    mul-add-during-3
-    add-during-requires-3
+    mul-put-during
+    put-during-requires
+    mul-put-during-2
+    put-during-requires-2
+    mul-put-during-3
+    put-during-requires-3
     add-reads-requires
     same-length
     same-length-2

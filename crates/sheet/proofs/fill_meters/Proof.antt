@@ -1,39 +1,34 @@
 -- `sheet::fill_meters` meets its contract: what the sheets have, and what the meters that are left are to add, are the point's figures. Assumes nothing.
-use mathlib.Core.Path.{refl, _∙_}
+use mathlib.Core.Path.{refl, ap, _∙_}
+use mathlib.Core.Bool.{true}
 use native.Mathlib.Omega.{arith}
 use denote.Ref.{now}
+use lib.ListN.{length}
 use Rattle.rules.specs.File.{bands as bandsFrom, meterAt, afterMeter, meters, afterMeters}
 use Rattle.records.proofs.Positions.{length-records, meter-forward}
+use Rattle.sheet.specs.Sheets.{counted}
 use Rattle.sheet.specs.Meters.{litresSheet, annualSheet, allowanceSheet, thresholdSheet, four}
 use Rattle.records.proofs.Ahead.{Ahead, ahead-past, ahead-one, ahead-turn, ahead-done}
+use Rattle.sheet.proofs.Growth.{counted-none}
 use Rattle.sheet.proofs.MeterSheets.{MetersLeft, cleared, meters-begin, meters-room, meters-turn, meters-end}
 use borrow.Author.Needs.{needs}
 use Rattle.sheet.proofs.fill_meters.Statement.{statement}
 use Rattle.sheet.proofs.fill_meters.Tie as tie
 
 abbrev Inv-loop : tie.InvT-loop
-Inv-loop file count tariff bands litres₀ annual₀ allowance₀ threshold₀ start next₀ left₀ litres annual allowance threshold next left = Ahead (meterAt file) afterMeter left (next .at) (afterMeters (next₀ .at) (meters file count (next₀ .at))) (MetersLeft (four litres₀ annual₀ allowance₀ threshold₀) (four litres annual allowance threshold) start (bandsFrom file bands (tariff .at)) (meters file count (next₀ .at)))
+Inv-loop file count tariff bands litres₀ annual₀ allowance₀ threshold₀ start fresh₀ next₀ left₀ litres annual allowance threshold fresh next left = Ahead (meterAt file) afterMeter left (next .at) (afterMeters (next₀ .at) (meters file count (next₀ .at))) (MetersLeft (four litres₀ (counted true annual₀) (counted true allowance₀) (counted true threshold₀)) (four litres (counted fresh annual) (counted fresh allowance) (counted fresh threshold)) start (bandsFrom file bands (tariff .at)) (meters file count (next₀ .at)))
 
 abbrev μ-loop : tie.MeasureT-loop
-μ-loop file count tariff bands litres₀ annual₀ allowance₀ threshold₀ start next₀ left₀ litres annual allowance threshold next left = left
+μ-loop file count tariff bands litres₀ annual₀ allowance₀ threshold₀ start fresh₀ next₀ left₀ litres annual allowance threshold fresh next left = left
 
 clear-requires : tie.Need-clear-requires Inv-loop μ-loop
 clear-requires c κs = search needs
 
-clear-requires-2 : tie.Need-clear-requires-2 Inv-loop μ-loop
-clear-requires-2 c κs = search needs
-
-clear-requires-3 : tie.Need-clear-requires-3 Inv-loop μ-loop
-clear-requires-3 c κs = search needs
-
-clear-requires-4 : tie.Need-clear-requires-4 Inv-loop μ-loop
-clear-requires-4 c κs = search needs
-
 loop-holds : tie.Need-loop-holds Inv-loop μ-loop
-loop-holds c = let s = c .before .before .before .before .before .before .before .before .before .before .before .before .before .before .before .before .before .before .before .before .before .args in let g = c .before .before .before .before .before .before .before .before .before .before .before .before .before .before .before .before .before .before .before .before .before .pre in record { ends = refl; holds = meters-begin (cleared (c .before .before .before .before .before .before .before .before .before .before .before .before .before .before .clear .ensures) (c .before .before .before .before .before .before .before .before .before .before .clear2 .ensures) (c .before .before .before .before .before .before .clear3 .ensures) (c .before .before .clear4 .ensures)) (g .priced) (g .sound) (omega (arith, g .few, length-records (meterAt (now (s .file))) afterMeter (s .count) (s .c .at))) }
+loop-holds c = let s = c .before .before .before .before .before .before .before .before .before .args in let g = c .before .before .before .before .before .before .before .before .before .pre in record { ends = refl; holds = meters-begin (cleared (now (s .annual)) (now (s .allowance)) (now (s .threshold)) (c .before .before .clear .ensures)) (g .priced) (g .sound) (omega (arith, g .few, length-records (meterAt (now (s .file))) afterMeter (s .count) (s .c .at))) }
 
 add-meter-requires : tie.Need-add-meter-requires Inv-loop μ-loop
-add-meter-requires c κs = let g = c .before .before .before .before .before .before .before .before .before .before .before .before .before .before .before .before .before .before .before .before .before .before .before .before .before .before .before .pre in let u = c .before .before .before .before .before .loop .inv in let h = c .before .before .before .before .loop-test .taken in (omega (arith, g .metersEnd, ahead-past u h (refl, refl) meter-forward), ((g .some, g .bandsEnd), (ahead-one u h (refl, refl) (λ ms v. v .good .0), (g .priced, ahead-one u h (refl, refl) (λ ms v. meters-room _ ms v)))))
+add-meter-requires c κs = let g = c .before .before .before .before .before .before .before .before .before .before .before .before .before .before .before .pre in let u = c .before .before .before .before .before .loop .inv in let h = c .before .before .before .before .loop-test .taken in (omega (arith, g .metersEnd, ahead-past u h (refl, refl) meter-forward), ((g .some, g .bandsEnd), (ahead-one u h (refl, refl) (λ ms v. v .good .0), (g .priced, ahead-one u h (refl, refl) (λ ms v. meters-room _ ms v)))))
 
 sub-left : tie.Need-sub-left Inv-loop μ-loop
 sub-left c = search needs
@@ -44,20 +39,29 @@ loop-less c = search needs
 loop-again : tie.Need-loop-again Inv-loop μ-loop
 loop-again c = ahead-turn (c .before .before .before .before .before .before .before .before .before .before .before .before .before .before .loop .inv) (c .before .before .before .before .before .before .before .before .before .before .before .before .before .loop-test .taken) (refl, c .before .before .before .before .before .before .before .before .add-meter .ensures .0) (λ ms u. meters-turn _ ms u (c .before .before .before .before .before .before .before .before .add-meter .ensures .1))
 
+clear-fresh-requires : tie.Need-clear-fresh-requires Inv-loop μ-loop
+clear-fresh-requires c κs = search needs
+
+clear-fresh-requires-2 : tie.Need-clear-fresh-requires-2 Inv-loop μ-loop
+clear-fresh-requires-2 c κs = search needs
+
+clear-fresh-requires-3 : tie.Need-clear-fresh-requires-3 Inv-loop μ-loop
+clear-fresh-requires-3 c κs = search needs
+
 same-length : tie.Need-same-length Inv-loop μ-loop
-same-length c = c .before .loop .inv .holds .rest litresSheet .long ∙ c .before .before .before .before .before .before .before .before .before .before .before .before .before .before .before .before .clear .ensures .long
+same-length c = c .before .before .before .before .before .before .before .before .before .before .before .before .before .loop .inv .holds .rest litresSheet .long ∙ c .before .before .before .before .before .before .before .before .before .before .before .before .before .before .before .before .clear .ensures .long
 
 same-length-2 : tie.Need-same-length-2 Inv-loop μ-loop
-same-length-2 c = c .before .loop .inv .holds .rest annualSheet .long ∙ c .before .before .before .before .before .before .before .before .before .before .before .before .clear2 .ensures .long
+same-length-2 c = ap length (c .before .before .before .before .before .before .before .before .before .before .clear-fresh .ensures) ∙ c .before .before .before .before .before .before .before .before .before .before .before .before .before .loop .inv .holds .rest annualSheet .long ∙ counted-none (now (c .before .before .before .before .before .before .before .before .before .before .before .before .before .before .before .before .before .before .before .before .before .before .before .args .annual)) .long
 
 same-length-3 : tie.Need-same-length-3 Inv-loop μ-loop
-same-length-3 c = c .before .loop .inv .holds .rest allowanceSheet .long ∙ c .before .before .before .before .before .before .before .before .clear3 .ensures .long
+same-length-3 c = ap length (c .before .before .before .before .before .before .clear-fresh2 .ensures) ∙ c .before .before .before .before .before .before .before .before .before .before .before .before .before .loop .inv .holds .rest allowanceSheet .long ∙ counted-none (now (c .before .before .before .before .before .before .before .before .before .before .before .before .before .before .before .before .before .before .before .before .before .before .before .args .allowance)) .long
 
 same-length-4 : tie.Need-same-length-4 Inv-loop μ-loop
-same-length-4 c = c .before .loop .inv .holds .rest thresholdSheet .long ∙ c .before .before .before .before .clear4 .ensures .long
+same-length-4 c = ap length (c .before .before .clear-fresh3 .ensures) ∙ c .before .before .before .before .before .before .before .before .before .before .before .before .before .loop .inv .holds .rest thresholdSheet .long ∙ counted-none (now (c .before .before .before .before .before .before .before .before .before .before .before .before .before .before .before .before .before .before .before .before .before .before .before .args .threshold)) .long
 
 returns : tie.Need-returns Inv-loop μ-loop
-returns c = let done = ahead-done (c .before .loop .inv) (omega arith) in (done .0, meters-end (cleared (c .before .before .before .before .before .before .before .before .before .before .before .before .before .before .before .before .clear .ensures) (c .before .before .before .before .before .before .before .before .before .before .before .before .clear2 .ensures) (c .before .before .before .before .before .before .before .before .clear3 .ensures) (c .before .before .before .before .clear4 .ensures)) (done .1))
+returns c = let s = c .before .before .before .before .before .before .before .before .before .before .before .before .before .before .before .before .before .before .before .before .before .before .before .args in let done = ahead-done (c .before .before .before .before .before .before .before .before .before .before .before .before .before .loop .inv) (omega arith) in (done .0, rw (c .before .before .before .before .before .before .before .before .before .before .clear-fresh .ensures, c .before .before .before .before .before .before .clear-fresh2 .ensures, c .before .before .clear-fresh3 .ensures) (meters-end (cleared (now (s .annual)) (now (s .allowance)) (now (s .threshold)) (c .before .before .before .before .before .before .before .before .before .before .before .before .before .before .before .before .clear .ensures)) (done .1)))
 
 pub fill-meters-spec : {M : Type 1} → statement M
 fill-meters-spec =
@@ -66,14 +70,14 @@ fill-meters-spec =
     Inv-loop
     μ-loop
     clear-requires
-    clear-requires-2
-    clear-requires-3
-    clear-requires-4
     loop-holds
     add-meter-requires
     sub-left
     loop-less
     loop-again
+    clear-fresh-requires
+    clear-fresh-requires-2
+    clear-fresh-requires-3
     same-length
     same-length-2
     same-length-3
