@@ -1,5 +1,4 @@
 -- `sheet::clear` meets its contract. Assumes nothing.
-use native.Mathlib.Nat.{le-refl}
 use Rattle.sheet.proofs.Laws.{written-all}
 use borrow.Author.Needs.{needs}
 use Rattle.sheet.proofs.clear.Statement.{statement}
@@ -12,7 +11,7 @@ same-length : tie.Need-same-length
 same-length c = search needs
 
 returns : tie.Need-returns
-returns c = written-all (c .before .before .set-between .ensures) (le-refl _)
+returns c = written-all (c .before .before .set-between .ensures)
 
 pub clear-spec : {M : Type 1} → statement M
 clear-spec = tie.close (tie.spec set-between-requires same-length returns)
