@@ -1,7 +1,7 @@
 -- Made by tools/graft.py from the derivation of the twin of `table::rows_into`; not edited by hand.
-use Rattle.figures.proofs.figures_at.Met
-use Rattle.figures.proofs.figures_at.Reads
-use Rattle.figures.proofs.figures_at.Symbol
+use Rattle.figures.proofs.parts_at.Met
+use Rattle.figures.proofs.parts_at.Reads
+use Rattle.figures.proofs.parts_at.Symbol
 use Rattle.records.proofs.after_point.Met as Met'
 use Rattle.records.proofs.after_point.Reads as Reads'
 use Rattle.records.proofs.after_point.Symbol as Symbol'
@@ -66,8 +66,20 @@ In-loop = λ Inv μ. Lts.In-loop (Reads''.Asked, Reads''.Learnt, Reads'4.Asked, 
 abbrev pub After-loop : (Inv : InvT-loop) → (μ : MeasureT-loop) → Type 0
 After-loop = λ Inv μ. Lts.After-loop (Reads''.Asked, Reads''.Learnt, Reads'4.Asked, Reads'4.Learnt, Reads.Asked, Reads.Learnt, Reads'3.Asked, Reads'3.Learnt, Reads'.Asked, Reads'.Learnt) Reads'5.Pre Reads'5.Post Inv μ
 
-abbrev pub After-figures-at : (Inv : InvT-loop) → (μ : MeasureT-loop) → Type 0
-After-figures-at = λ Inv μ. Lts.After-figures-at (Reads''.Asked, Reads''.Learnt, Reads'4.Asked, Reads'4.Learnt, Reads.Asked, Reads.Learnt, Reads'3.Asked, Reads'3.Learnt, Reads'.Asked, Reads'.Learnt) Reads'5.Pre Reads'5.Post Inv μ
+abbrev pub After-litres : (Inv : InvT-loop) → (μ : MeasureT-loop) → Type 0
+After-litres = λ Inv μ. Lts.After-litres (Reads''.Asked, Reads''.Learnt, Reads'4.Asked, Reads'4.Learnt, Reads.Asked, Reads.Learnt, Reads'3.Asked, Reads'3.Learnt, Reads'.Asked, Reads'.Learnt) Reads'5.Pre Reads'5.Post Inv μ
+
+abbrev pub After-annual : (Inv : InvT-loop) → (μ : MeasureT-loop) → Type 0
+After-annual = λ Inv μ. Lts.After-annual (Reads''.Asked, Reads''.Learnt, Reads'4.Asked, Reads'4.Learnt, Reads.Asked, Reads.Learnt, Reads'3.Asked, Reads'3.Learnt, Reads'.Asked, Reads'.Learnt) Reads'5.Pre Reads'5.Post Inv μ
+
+abbrev pub After-allowance : (Inv : InvT-loop) → (μ : MeasureT-loop) → Type 0
+After-allowance = λ Inv μ. Lts.After-allowance (Reads''.Asked, Reads''.Learnt, Reads'4.Asked, Reads'4.Learnt, Reads.Asked, Reads.Learnt, Reads'3.Asked, Reads'3.Learnt, Reads'.Asked, Reads'.Learnt) Reads'5.Pre Reads'5.Post Inv μ
+
+abbrev pub After-threshold : (Inv : InvT-loop) → (μ : MeasureT-loop) → Type 0
+After-threshold = λ Inv μ. Lts.After-threshold (Reads''.Asked, Reads''.Learnt, Reads'4.Asked, Reads'4.Learnt, Reads.Asked, Reads.Learnt, Reads'3.Asked, Reads'3.Learnt, Reads'.Asked, Reads'.Learnt) Reads'5.Pre Reads'5.Post Inv μ
+
+abbrev pub After-parts-at : (Inv : InvT-loop) → (μ : MeasureT-loop) → Type 0
+After-parts-at = λ Inv μ. Lts.After-parts-at (Reads''.Asked, Reads''.Learnt, Reads'4.Asked, Reads'4.Learnt, Reads.Asked, Reads.Learnt, Reads'3.Asked, Reads'3.Learnt, Reads'.Asked, Reads'.Learnt) Reads'5.Pre Reads'5.Post Inv μ
 
 abbrev pub After-add-all-arg : (Inv : InvT-loop) → (μ : MeasureT-loop) → Type 0
 After-add-all-arg = λ Inv μ. Lts.After-add-all-arg (Reads''.Asked, Reads''.Learnt, Reads'4.Asked, Reads'4.Learnt, Reads.Asked, Reads.Learnt, Reads'3.Asked, Reads'3.Learnt, Reads'.Asked, Reads'.Learnt) Reads'5.Pre Reads'5.Post Inv μ
@@ -96,8 +108,8 @@ Need-clear-requires = λ Inv μ. Lts.Need-clear-requires (Reads''.Asked, Reads''
 abbrev pub Need-loop-holds : (Inv : InvT-loop) → (μ : MeasureT-loop) → Type 0
 Need-loop-holds = λ Inv μ. Lts.Need-loop-holds (Reads''.Asked, Reads''.Learnt, Reads'4.Asked, Reads'4.Learnt, Reads.Asked, Reads.Learnt, Reads'3.Asked, Reads'3.Learnt, Reads'.Asked, Reads'.Learnt) Reads'5.Pre Reads'5.Post Inv μ
 
-abbrev pub Need-figures-at-requires : (Inv : InvT-loop) → (μ : MeasureT-loop) → Type 0
-Need-figures-at-requires = λ Inv μ. Lts.Need-figures-at-requires (Reads''.Asked, Reads''.Learnt, Reads'4.Asked, Reads'4.Learnt, Reads.Asked, Reads.Learnt, Reads'3.Asked, Reads'3.Learnt, Reads'.Asked, Reads'.Learnt) Reads'5.Pre Reads'5.Post Inv μ
+abbrev pub Need-parts-at-requires : (Inv : InvT-loop) → (μ : MeasureT-loop) → Type 0
+Need-parts-at-requires = λ Inv μ. Lts.Need-parts-at-requires (Reads''.Asked, Reads''.Learnt, Reads'4.Asked, Reads'4.Learnt, Reads.Asked, Reads.Learnt, Reads'3.Asked, Reads'3.Learnt, Reads'.Asked, Reads'.Learnt) Reads'5.Pre Reads'5.Post Inv μ
 
 abbrev pub Need-add-all-requires : (Inv : InvT-loop) → (μ : MeasureT-loop) → Type 0
 Need-add-all-requires = λ Inv μ. Lts.Need-add-all-requires (Reads''.Asked, Reads''.Learnt, Reads'4.Asked, Reads'4.Learnt, Reads.Asked, Reads.Learnt, Reads'3.Asked, Reads'3.Learnt, Reads'.Asked, Reads'.Learnt) Reads'5.Pre Reads'5.Post Inv μ
@@ -121,10 +133,10 @@ abbrev pub Need-returns : (Inv : InvT-loop) → (μ : MeasureT-loop) → Type 0
 Need-returns = λ Inv μ. Lts.Need-returns (Reads''.Asked, Reads''.Learnt, Reads'4.Asked, Reads'4.Learnt, Reads.Asked, Reads.Learnt, Reads'3.Asked, Reads'3.Learnt, Reads'.Asked, Reads'.Learnt) Reads'5.Pre Reads'5.Post Inv μ
 
 module _ {M : Type 1} where
-  pub spec : (Inv : InvT-loop) → (μ : MeasureT-loop) → (answer : Need-header-requires Inv μ) → (answer : Need-mul-at Inv μ) → (answer : Need-add-at Inv μ) → (answer : Need-clear-requires Inv μ) → (answer : Need-loop-holds Inv μ) → (answer : Need-figures-at-requires Inv μ) → (answer : Need-add-all-requires Inv μ) → (answer : Need-after-point-requires Inv μ) → (answer : Need-sub-left Inv μ) → (answer : Need-loop-less Inv μ) → (answer : Need-loop-again Inv μ) → (answer : Need-same-length Inv μ) → (answer : Need-returns Inv μ) → Lts.Closed (Reads''.Asked, Reads''.Learnt, Reads'4.Asked, Reads'4.Learnt, Reads.Asked, Reads.Learnt, Reads'3.Asked, Reads'3.Learnt, Reads'.Asked, Reads'.Learnt) Reads'5.Pre Reads'5.Post M
+  pub spec : (Inv : InvT-loop) → (μ : MeasureT-loop) → (answer : Need-header-requires Inv μ) → (answer : Need-mul-at Inv μ) → (answer : Need-add-at Inv μ) → (answer : Need-clear-requires Inv μ) → (answer : Need-loop-holds Inv μ) → (answer : Need-parts-at-requires Inv μ) → (answer : Need-add-all-requires Inv μ) → (answer : Need-after-point-requires Inv μ) → (answer : Need-sub-left Inv μ) → (answer : Need-loop-less Inv μ) → (answer : Need-loop-again Inv μ) → (answer : Need-same-length Inv μ) → (answer : Need-returns Inv μ) → Lts.Closed (Reads''.Asked, Reads''.Learnt, Reads'4.Asked, Reads'4.Learnt, Reads.Asked, Reads.Learnt, Reads'3.Asked, Reads'3.Learnt, Reads'.Asked, Reads'.Learnt) Reads'5.Pre Reads'5.Post M
   spec = λ Inv μ answer answer' answer'' answer'3 answer'4 answer'5 answer'6 answer'7 answer'8 answer'9 answer'10 answer'11 answer'12. Lts.spec (Reads''.Asked, Reads''.Learnt, Reads'4.Asked, Reads'4.Learnt, Reads.Asked, Reads.Learnt, Reads'3.Asked, Reads'3.Learnt, Reads'.Asked, Reads'.Learnt) Reads'5.Pre Reads'5.Post Inv μ answer answer' answer'' answer'3 answer'4 answer'5 answer'6 answer'7 answer'8 answer'9 answer'10 answer'11 answer'12
 
   -- antt refused `close` as it was built: the module's report says why
   pub close : Lts.Closed (Reads''.Asked, Reads''.Learnt, Reads'4.Asked, Reads'4.Learnt, Reads.Asked, Reads.Learnt, Reads'3.Asked, Reads'3.Learnt, Reads'.Asked, Reads'.Learnt) Reads'5.Pre Reads'5.Post M → Statement.statement M
   unfolding Code.routine Running.tablesOf
-  close = λ closed 𝓤 H 𝓜 𝓖 𝓡. Written.close 2 Kinds.ps Kinds.r Reads'5.Ghost Reads'5.requires Reads'5.ensures Reads'5.pre-read Reads'5.Pinned Reads'5.Owned Reads'5.post-read record { M = M; 𝓤 = 𝓤; H = H; 𝓜 = 𝓜; 𝓖 = 𝓖; 𝓡 = 𝓡 } Code.env Key.name Code.function (Code.unfolded 𝓤 H 𝓜 𝓡) (λ κs a g. tt) (λ κs. Reads'5.owns κs record { M = M; 𝓤 = 𝓤; H = H; 𝓜 = 𝓜; 𝓖 = 𝓖; 𝓡 = 𝓡 }) (Reads'5.passes record { M = M; 𝓤 = 𝓤; H = H; 𝓜 = 𝓜; 𝓖 = 𝓖; 𝓡 = 𝓡 }) λ g. closed 𝓤 H (𝓖 .A) (Running.givenOf 𝓤 H 𝓜 𝓖) (Run.Over 𝓤 H 𝓜 𝓖 𝓡 Code.env) (Reads''.known record { M = M; 𝓤 = 𝓤; H = H; 𝓜 = 𝓜; 𝓖 = 𝓖; 𝓡 = 𝓡 } Code.env Symbol''.name Symbol''.routine Code.calls-records·header (Met''.met 𝓤 H 𝓜 𝓖 𝓡)) (Reads'4.known record { M = M; 𝓤 = 𝓤; H = H; 𝓜 = 𝓜; 𝓖 = 𝓖; 𝓡 = 𝓡 } Code.env Symbol'4.name Symbol'4.routine Code.calls-table·clear (Met'4.met 𝓤 H 𝓜 𝓖 𝓡)) (Reads.known record { M = M; 𝓤 = 𝓤; H = H; 𝓜 = 𝓜; 𝓖 = 𝓖; 𝓡 = 𝓡 } Code.env Symbol.name Symbol.routine Code.calls-figures·figures-at (Met.met 𝓤 H 𝓜 𝓖 𝓡)) (Reads'3.known record { M = M; 𝓤 = 𝓤; H = H; 𝓜 = 𝓜; 𝓖 = 𝓖; 𝓡 = 𝓡 } Code.env Symbol'3.name Symbol'3.routine Code.calls-table·add-all (Met'3.met 𝓤 H 𝓜 𝓖 𝓡)) (Reads'.known record { M = M; 𝓤 = 𝓤; H = H; 𝓜 = 𝓜; 𝓖 = 𝓖; 𝓡 = 𝓡 } Code.env Symbol'.name Symbol'.routine Code.calls-records·after-point (Met'.met 𝓤 H 𝓜 𝓖 𝓡))
+  close = λ closed 𝓤 H 𝓜 𝓖 𝓡. Written.close 2 Kinds.ps Kinds.r Reads'5.Ghost Reads'5.requires Reads'5.ensures Reads'5.pre-read Reads'5.Pinned Reads'5.Owned Reads'5.post-read record { M = M; 𝓤 = 𝓤; H = H; 𝓜 = 𝓜; 𝓖 = 𝓖; 𝓡 = 𝓡 } Code.env Key.name Code.function (Code.unfolded 𝓤 H 𝓜 𝓡) (λ κs a g. tt) (λ κs. Reads'5.owns κs record { M = M; 𝓤 = 𝓤; H = H; 𝓜 = 𝓜; 𝓖 = 𝓖; 𝓡 = 𝓡 }) (Reads'5.passes record { M = M; 𝓤 = 𝓤; H = H; 𝓜 = 𝓜; 𝓖 = 𝓖; 𝓡 = 𝓡 }) λ g. closed 𝓤 H (𝓖 .A) (Running.givenOf 𝓤 H 𝓜 𝓖) (Run.Over 𝓤 H 𝓜 𝓖 𝓡 Code.env) (Reads''.known record { M = M; 𝓤 = 𝓤; H = H; 𝓜 = 𝓜; 𝓖 = 𝓖; 𝓡 = 𝓡 } Code.env Symbol''.name Symbol''.routine Code.calls-records·header (Met''.met 𝓤 H 𝓜 𝓖 𝓡)) (Reads'4.known record { M = M; 𝓤 = 𝓤; H = H; 𝓜 = 𝓜; 𝓖 = 𝓖; 𝓡 = 𝓡 } Code.env Symbol'4.name Symbol'4.routine Code.calls-table·clear (Met'4.met 𝓤 H 𝓜 𝓖 𝓡)) (Reads.known record { M = M; 𝓤 = 𝓤; H = H; 𝓜 = 𝓜; 𝓖 = 𝓖; 𝓡 = 𝓡 } Code.env Symbol.name Symbol.routine Code.calls-figures·parts-at (Met.met 𝓤 H 𝓜 𝓖 𝓡)) (Reads'3.known record { M = M; 𝓤 = 𝓤; H = H; 𝓜 = 𝓜; 𝓖 = 𝓖; 𝓡 = 𝓡 } Code.env Symbol'3.name Symbol'3.routine Code.calls-table·add-all (Met'3.met 𝓤 H 𝓜 𝓖 𝓡)) (Reads'.known record { M = M; 𝓤 = 𝓤; H = H; 𝓜 = 𝓜; 𝓖 = 𝓖; 𝓡 = 𝓡 } Code.env Symbol'.name Symbol'.routine Code.calls-records·after-point (Met'.met 𝓤 H 𝓜 𝓖 𝓡))
