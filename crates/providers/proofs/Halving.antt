@@ -1,33 +1,15 @@
 -- The place of a number in an ascending list, by halving what is left of it. Assumes nothing.
-use Prim.Native.Nat.{ℕ, zero, suc, _+_, _-_, _*_, _≤_, _<_}
+use Prim.Native.Nat.{ℕ, _+_, _-_, _*_, _≤_, _<_}
 use mathlib.Core.Bool.{cond}
-use mathlib.Core.Path.{_≡_, ap}
-use mathlib.Core.List.{List, [], _∷_}
+use mathlib.Core.Path.{_≡_}
+use mathlib.Core.List.{List}
 use native.Mathlib.Omega.{arith}
 use native.Mathlib.Decide.{decLt}
 use lib.Dec.{ltb}
-use lib.ListN.{length, getD}
+use lib.ListN.{getD}
 use borrow.Author.Tests.{lt-ltb, le-ltb}
-use Rattle.rules.specs.Lists.{Ascending}
+use Rattle.rules.proofs.Lists.{ordered}
 use Rattle.providers.specs.Listed.{Ascends, Placed}
-
--- an ascending list by its places
-from-low : (low : ℕ) (xs : List ℕ) → Ascending low xs → (i : ℕ) → i < length xs → low ≤ getD xs i 0
-from-low low [] up i h = absurd (omega arith)
-from-low low (x ∷ xs) up zero h = up .0
-from-low low (x ∷ xs) up (suc i) h = omega (arith, up .0, from-low (suc x) xs (up .1) i (omega arith))
-
-pub ascends : (low : ℕ) (xs : List ℕ) → Ascending low xs → Ascends xs (length xs)
-ascends low [] up i j h k = absurd (omega arith)
-ascends low (x ∷ xs) up i zero h k = absurd (omega arith)
-ascends low (x ∷ xs) up zero (suc j) h k = from-low (suc x) xs (up .1) j (omega arith)
-ascends low (x ∷ xs) up (suc i) (suc j) h k = ascends (suc x) xs (up .1) i j (omega arith) (omega arith)
-
-pub ordered : (list : List ℕ) (count : ℕ) → Ascends list count → (i j : ℕ) → i ≤ j → j < count → getD list i 0 ≤ getD list j 0
-ordered list count up i j h k = elim (decLt i j) [
-  | yes l ↦ omega (arith, up i j l k)
-  | no l ↦ let e : i ≡ j = omega arith in omega (arith, ap (λ m. getD list m 0) e)
-]
 
 -- of the first `count` numbers those before `low` are below p, and those behind what is left are not
 pub record Halving (list : List ℕ) (count p low left : ℕ) : Type 0 where

@@ -8,8 +8,7 @@ use lib.ListN.{length, getD, set, take, drop, length-set, length-drop, length-ap
 use lib.Seq.{take-all, drop-cons, length-take-le, getD-take, getD-drop, getD-set-same, getD-set-other, getD-append-add, getD-append-seam, ext-getD}
 use borrow.Author.Tests.{lt-ltb, le-ltb, eq-eqb, ne-eqb}
 use Rattle.rules.specs.Lists.{Ascending, insert}
-use Rattle.rules.proofs.Lists.{three, insert-ascends}
-use Rattle.providers.proofs.Halving.{ascends}
+use Rattle.rules.proofs.Lists.{three, ascends, insert-ascends}
 use Rattle.providers.specs.Listed.{Lent, Holds, With, Ascends, Placed, MovedUp, insertRun}
 
 -- a number goes past those below it

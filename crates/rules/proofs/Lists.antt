@@ -1,6 +1,6 @@
 -- The laws of lists: an ascending list is known by its elements, a number put into it is one of them, and the record in force is the one
 -- of the greatest key. Assumes nothing.
-use Prim.Native.Nat.{ℕ, suc, _≤_, _<_}
+use Prim.Native.Nat.{ℕ, zero, suc, _≤_, _<_}
 use mathlib.Core.Bool.{Bool, true, false, cond}
 use mathlib.Core.Path.{_≡_, refl, sym, ap, _∙_, subst}
 use mathlib.Core.Logic.{_⊎_, inl, inr, ⊎-elim, ⊎-map, _↔_, Iff·trans}
@@ -8,6 +8,7 @@ use mathlib.Core.List.{List, [], _∷_, map}
 use native.Mathlib.Omega.{arith}
 use native.Mathlib.Decide.{decLt}
 use lib.Dec.{leb}
+use lib.ListN.{length, getD}
 use borrow.Author.Tests.{lt-ltb, le-ltb, le-leb, lt-leb, eq-eqb, ne-eqb}
 use Rattle.rules.specs.Lists.{All, In, Ascending, Lists, insert, latest, IsLatest}
 
@@ -24,6 +25,24 @@ pub ascending-from : {low a : ℕ} (xs : List ℕ) → Ascending low xs → In a
 ascending-from [] h m = absurd m
 ascending-from (x ∷ xs) h (inl e) = omega arith
 ascending-from {low} {a} (x ∷ xs) h (inr m) = omega (arith, ascending-from xs (h .1) m)
+
+-- an ascending list by its places
+pub in-list : (xs : List ℕ) (i : ℕ) → i < length xs → In (getD xs i 0) xs
+in-list [] i h = absurd (omega arith)
+in-list (x ∷ xs) zero h = inl refl
+in-list (x ∷ xs) (suc i) h = inr (in-list xs i (omega arith))
+
+pub ascends : (low : ℕ) (xs : List ℕ) → Ascending low xs → (i j : ℕ) → i < j → j < length xs → getD xs i 0 < getD xs j 0
+ascends low [] up i j h k = absurd (omega arith)
+ascends low (x ∷ xs) up i zero h k = absurd (omega arith)
+ascends low (x ∷ xs) up zero (suc j) h k = ascending-from xs (up .1) (in-list xs j (omega arith))
+ascends low (x ∷ xs) up (suc i) (suc j) h k = ascends (suc x) xs (up .1) i j (omega arith) (omega arith)
+
+pub ordered : (xs : List ℕ) (n : ℕ) → ((i j : ℕ) → i < j → j < n → getD xs i 0 < getD xs j 0) → (i j : ℕ) → i ≤ j → j < n → getD xs i 0 ≤ getD xs j 0
+ordered xs n up i j h k = elim (decLt i j) [
+  | yes l ↦ omega (arith, up i j l k)
+  | no l ↦ let e : i ≡ j = omega arith in omega (arith, ap (λ m. getD xs m 0) e)
+]
 
 -- the list with a put in ascends, and has what it had and a
 pub insert-ascends : (a low : ℕ) (xs : List ℕ) → low ≤ a → Ascending low xs → Ascending low (insert a xs)
