@@ -1,18 +1,19 @@
 -- Laws of sheets that are set or added to. Assumes nothing.
-use Prim.Native.Nat.{ℕ, _+_, _-_, _*_, _/_, _≤_, _<_, _^_, min, zero-le}
+use Prim.Native.Nat.{ℕ, zero, suc, _+_, _-_, _*_, _/_, _≤_, _<_, _^_, min, zero-le}
 use mathlib.Core.Path.{_≡_, refl, sym, ap, ap₂, _∙_, subst}
-use mathlib.Core.Bool.{true}
-use mathlib.Core.List.{List}
+use mathlib.Core.Bool.{Bool, true, false, _&&_}
+use mathlib.Core.List.{List, [], _∷_}
 use native.Mathlib.Nat.{le-refl, mul-le-mul, mul-le-mul-left, mul-comm, mul-right-comm, mul-zero, zero-div, div-le-of-le-mul, mul-div-mul-right}
 use native.Mathlib.Decide.{decLt}
 use native.Mathlib.Omega.{arith}
-use borrow.Author.Tests.{le-leb, lt-leb, lt-ltb, le-ltb}
-use lib.ListN.{length, getD, set, length-replicate, getD-replicate}
+use borrow.Author.Tests.{ltb-true, leb-true, eqb-true, le-leb, lt-leb, lt-ltb, le-ltb}
+use lib.Dec.{ltb, leb, eqb}
+use lib.ListN.{length, getD, set, length-replicate, getD-replicate, length-map}
 use lib.Seq.{ext-getD}
 use Rattle.rules.specs.Sums.{only}
 use Rattle.rules.specs.Litres.{carriedBefore}
 use Rattle.rules.proofs.Shares.{div-mono}
-use Rattle.sheet.specs.Sheets.{Written, Filled, Grown, Room, counted}
+use Rattle.sheet.specs.Sheets.{Written, Filled, Grown, Room, counted, raised, RoomBetween, OnAllDays}
 use Rattle.sheet.specs.Meters.{during, carried, spread, Spreadable}
 use Rattle.sheet.proofs.Laws.{written-none, written-more}
 
@@ -98,19 +99,140 @@ set-days {start = start} {x} {lo} {t} first last low top u v w =
       ];
     }
 
--- FRESH SHEETS, of which nothing counts
-pub counted-none : (l : List ℕ) → Filled l (counted true l) 0 (λ d. 0)
-counted-none l = record { long = length-replicate (length l) 0; each = λ i h. getD-replicate (length l) i 0 0 h }
+-- a figure that is added on its days
+module _ {l : List ℕ} {start lo t : ℕ} (first last x : ℕ) (low : lo ≡ min (first - start) (length l)) (top : t ≡ min (last - start) (length l)) where
+  pub add-room : Room l start (during first last x) → RoomBetween l x lo t
+  add-room r =
+      record {
+        within = omega arith;
+        fits = λ i h k. omega (arith, r .fits i (omega arith), during-in first last x (start + i) (omega arith) (omega arith));
+      }
 
-pub cleared-counted : {l a : List ℕ} → Filled l a 0 (λ d. 0) → a ≡ counted true l
-cleared-counted {l} {a} f =
-    let none = counted-none l in
-    ext-getD 0 a (counted true l) (f .long ∙ sym (none .long)) (λ i h. let k : i < length l = omega (arith, f .long) in f .each i k ∙ sym (none .each i k))
+  pub add-days : {s : List ℕ} → Written l s (λ i. getD l i 0 + x) lo t → Grown l s start (during first last x)
+  add-days u =
+      record {
+        long = u .long;
+        each = λ i k. elim (decLt i lo) [
+          | yes lt ↦ omega (arith, u .under i lt, during-before first last x (start + i) (omega arith))
+          | no ge ↦ elim (decLt i t) [
+            | yes lt ↦ omega (arith, u .inside i (omega arith) lt, during-in first last x (start + i) (omega arith) (omega arith))
+            | no ge′ ↦ omega (arith, u .past i (omega arith), during-after first last x (start + i) (omega arith))
+          ]
+        ];
+      }
+
+-- FRESH SHEETS, of which nothing counts
+counted-none : (l : List ℕ) → Filled l (counted true l) 0 (λ d. 0)
+counted-none l = record { long = length-replicate (length l) 0; each = λ i h. getD-replicate (length l) i 0 0 h }
 
 pub set-grown : {l a : List ℕ} {start : ℕ} {f : ℕ → ℕ} → Filled l a start f → Grown (counted true l) a start f
 set-grown {l} p =
     let none = counted-none l in
     record { long = p .long ∙ sym (none .long); each = λ i h. let k : i < length l = omega (arith, none .long) in omega (arith, p .each i k, none .each i k) }
+
+counted-long : (fresh : Bool) (l : List ℕ) → length (counted fresh l) ≡ length l
+counted-long true l = length-replicate (length l) 0
+counted-long false l = refl
+
+-- A SHEET WITH x MORE ON EVERY DAY
+module _ (x : ℕ) where
+  raised-long : (l : List ℕ) → length (raised x l) ≡ length l
+  raised-long l = length-map l (λ y. y + x)
+
+  raised-each : (l : List ℕ) (i : ℕ) → i < length l → getD (raised x l) i 0 ≡ getD l i 0 + x
+  raised-each [] i h = absurd (omega arith)
+  raised-each (y ∷ l) zero h = refl
+  raised-each (y ∷ l) (suc i) h = raised-each l i (omega arith)
+
+  module _ (l : List ℕ) {start : ℕ} {f : ℕ → ℕ} where
+    raised-fits : Room (raised x l) start f → (i : ℕ) → i < length l → getD l i 0 + x + f (start + i) < 2 ^ 64
+    raised-fits r i h = omega (arith, raised-each l i h, r .fits i (omega (arith, raised-long l)))
+
+    -- there is room on the sheet as it stands, and for x on every day
+    pub raised-room : Room (raised x l) start f → Room l start f
+    raised-room r = record { fits = λ i h. omega (arith, raised-fits r i h) }
+
+    pub raise-room : Room (raised x l) start f → Room l 0 (λ d. x)
+    raise-room r = record { fits = λ i h. omega (arith, raised-fits r i h) }
+
+    pub raised-grown : {a : List ℕ} → Grown l a start f → Grown (raised x l) (raised x a) start f
+    raised-grown {a} g =
+        record {
+          long = raised-long a ∙ g .long ∙ sym (raised-long l);
+          each = λ i h.
+              let k : i < length l = omega (arith, raised-long l) in
+              omega (arith, g .each i k, raised-each l i k, raised-each a i (omega (arith, g .long)));
+        }
+
+  pub grown-raised : {l a : List ℕ} → Grown l a 0 (λ d. x) → a ≡ raised x l
+  grown-raised {l} {a} g =
+      ext-getD 0 a (raised x l) (g .long ∙ sym (raised-long l)) (λ i h. let k : i < length l = omega (arith, g .long) in g .each i k ∙ sym (raised-each l i k))
+
+-- a fresh sheet with nothing more
+pub raised-none : (l : List ℕ) → Filled l (raised 0 (counted true l)) 0 (λ d. 0)
+raised-none l =
+    let none = counted-none l in
+    record {
+      long = raised-long 0 (counted true l) ∙ none .long;
+      each = λ i h. omega (arith, raised-each 0 (counted true l) i (omega (arith, none .long)), none .each i h);
+    }
+
+-- what is added to every entry
+module _ {l : List ℕ} (x : ℕ) where
+  pub all-between : Room l 0 (λ d. x) → RoomBetween l x 0 (length l)
+  all-between r = record { within = le-refl (length l); fits = λ i h k. r .fits i k }
+
+  pub all-added : {a : List ℕ} → Written l a (λ i. getD l i 0 + x) 0 (length l) → Grown l a 0 (λ d. x)
+  all-added u = record { long = u .long; each = λ i k. u .inside i zero-le k }
+
+-- DAYS THAT ARE ALL THE DAYS OF A SHEET
+both-true : (s t : Bool) → (s && t) ≡ true → (s ≡ true) × (t ≡ true)
+both-true true t e = (refl, e)
+both-true false t e = absurd (let z : _≡_ {A = ℕ} 0 1 = cc in omega arith)
+
+pub all-days : {n start first last end : ℕ} → end ≡ min (last - start) n → (ltb 0 n && leb first start && eqb end n) ≡ true → OnAllDays n start first last
+all-days {n} {start} {first} {end = end} q e =
+    let outer = both-true (ltb 0 n && leb first start) (eqb end n) e in
+    let inner = both-true (ltb 0 n) (leb first start) (outer .0) in
+    let some = ltb-true 0 n (inner .0) in
+    let whole = eqb-true end n (outer .1) in
+    record { some = some; begun = leb-true first start (inner .1); lasts = omega arith }
+
+-- of three sheets that are as long
+abbrev pub AllAlike : ℕ → ℕ → ℕ → ℕ → ℕ → ℕ → Type 0
+AllAlike n a t start first last = OnAllDays n start first last × OnAllDays a start first last × OnAllDays t start first last
+
+pub all-alike : {n a t start first last : ℕ} {days : Bool} → (eqb a n && eqb t n && days) ≡ true → (days ≡ true → OnAllDays n start first last) → AllAlike n a t start first last
+all-alike {n} {a} {t} {start} {first} {last} {days} e h =
+    let outer = both-true (eqb a n && eqb t n) days e in
+    let inner = both-true (eqb a n) (eqb t n) (outer .0) in
+    let o = h (outer .1) in
+    let as-long : (k : ℕ) → k ≡ n → OnAllDays k start first last = λ k q. subst (λ k. OnAllDays k start first last) (sym q) o in
+    (o, as-long a (eqb-true a n (inner .0)), as-long t (eqb-true t n (inner .1)))
+
+-- a figure on those days is a figure on every day
+module _ {start first last : ℕ} (fresh : Bool) (l : List ℕ) (o : OnAllDays (length l) start first last) (x y : ℕ) where
+  pub all-room : Room (raised x (counted fresh l)) start (during first last y) → x + y < 2 ^ 64
+  all-room r =
+      omega (
+        arith,
+        raised-fits x (counted fresh l) r 0 (omega (arith, counted-long fresh l, o .some)),
+        during-in first last y (start + 0) (omega (arith, o .begun)) (omega (arith, o .some, o .lasts)),
+      )
+
+  pub all-grown : {z : ℕ} → z ≡ x + y → Grown (raised x (counted fresh l)) (raised z (counted fresh l)) start (during first last y)
+  all-grown {z} e =
+      record {
+        long = raised-long z (counted fresh l) ∙ sym (raised-long x (counted fresh l));
+        each = λ i h.
+            let k : i < length (counted fresh l) = omega (arith, raised-long x (counted fresh l)) in
+            omega (
+              arith,
+              raised-each x (counted fresh l) i k,
+              raised-each z (counted fresh l) i k,
+              during-in first last y (start + i) (omega (arith, o .begun)) (omega (arith, counted-long fresh l, o .lasts)),
+            );
+      }
 
 -- growth by a function that is the same
 pub grown-as : {a b : List ℕ} {start : ℕ} {f g : ℕ → ℕ} → ((d : ℕ) → f d ≡ g d) → Grown a b start f → Grown a b start g

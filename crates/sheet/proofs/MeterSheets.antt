@@ -17,9 +17,10 @@ use Rattle.rules.specs.Litres.{advance, litresPerCount, fromReads, meterLitres}
 use Rattle.rules.specs.Charges.{noBand, firstBand, bandFor}
 use Rattle.rules.specs.Good.{GoodBand, GoodRead, GoodAdvance, GoodAdvances, GoodMeter}
 use Rattle.rules.proofs.Lists.{latest-all}
-use Rattle.sheet.specs.Sheets.{Filled, Grown, Room, counted}
-use Rattle.sheet.specs.Meters.{during, Spreadable, meterOf, weighed, MeterSheet, litresSheet, annualSheet, allowanceSheet, thresholdSheet, meterFigure, four, MeterRoom, MeterAdded, MetersFilled}
-use Rattle.sheet.proofs.Growth.{during-most, counted-none, grown-as, room-as, Rest, rest-all, rest-room, rest-more, rest-none, spread-most, amount-fits}
+use Rattle.sheet.specs.declared.Figures.{Figures}
+use Rattle.sheet.specs.Sheets.{Filled, Grown, Room, counted, raised}
+use Rattle.sheet.specs.Meters.{during, Spreadable, meterOf, weighed, Weights, Sums, MeterSheet, litresSheet, annualSheet, allowanceSheet, thresholdSheet, meterFigure, four, standing, MeterRoom, MeterAdded, MetersFilled}
+use Rattle.sheet.proofs.Growth.{during-most, raised-room, raised-grown, raised-none, AllAlike, all-room, all-grown, grown-as, room-as, Rest, rest-all, rest-room, rest-more, rest-none, spread-most, amount-fits}
 use Rattle.sheet.proofs.Readings.{advance-fits, spreadable, between-is}
 
 -- a figure of a band: 0 where there is none, and at most 10 ^ 9
@@ -74,33 +75,76 @@ module _ (file : List ℕ) (at : ℕ) {next : ℕ} {head : MeterHead} (e : (head
   meter-asks w g r = (rw meter-after w, (rw meter-is g, rw meter-is r))
 
   module _ (bs : List Band) {band : Band} (q : band ≡ bandFor bs (head .size)) where
-    weighed-is : (figure : Band → ℕ) (d : ℕ) → during (head .installed) (head .removed) (figure band * head .share) d ≡ weighed figure bs (meterAt file at) d
+    weighed-is : (figure : Band → ℕ) {x : ℕ} → x ≡ figure band * head .share → (d : ℕ) → during (head .installed) (head .removed) x d ≡ weighed figure bs (meterAt file at) d
     unfolding weighed
-    weighed-is figure d = rw (q, e .0)
+    weighed-is figure p d = rw (p, q, e .0)
 
-    pub weight-fits : {figure : Band → ℕ} → Figure figure → All GoodBand bs → GoodMeter (meterAt file at) → figure band * head .share ≤ 100000000000
+    weight-fits : {figure : Band → ℕ} → Figure figure → All GoodBand bs → GoodMeter (meterAt file at) → figure band * head .share ≤ 100000000000
     weight-fits {figure} f all g =
         let b : figure band ≤ 1000000000 = rw q (band-most f bs (head .size) all) in
         let s : head .share ≤ 100 = rw (e .0) (g .head .share) in
         omega (arith, mul-le-mul b s)
 
-    pub weight-room : {sheet : List ℕ} {start : ℕ} (figure : Band → ℕ) → Room sheet start (weighed figure bs (meterAt file at)) →
-        Room sheet start (during (head .installed) (head .removed) (figure band * head .share))
-    weight-room figure = room-as (λ d. sym (weighed-is figure d))
+    pub weights-fit : All GoodBand bs → GoodMeter (meterAt file at) → (band .annual * head .share < 2 ^ 64) × (band .allowance * head .share < 2 ^ 64) × (band .threshold * head .share < 2 ^ 64)
+    weights-fit all g = (omega (arith, weight-fits annual-figure all g), omega (arith, weight-fits allowance-figure all g), omega (arith, weight-fits threshold-figure all g))
 
-    pub meter-added : {l n a t l′ n′ a′ t′ : List ℕ} {start last : ℕ} →
+    meter-added : {l n a t l′ n′ a′ t′ : List ℕ} {start last : ℕ} {figures : Figures} → Weights band (head .share) figures →
         (last ≡ afterReads next (reads file (head .reads) next)) × Grown l l′ start (meterLitres (meterOf head (reads file (head .reads) next))) →
-        Grown n n′ start (during (head .installed) (head .removed) (band .annual * head .share)) →
-        Grown a a′ start (during (head .installed) (head .removed) (band .allowance * head .share)) →
-        Grown t t′ start (during (head .installed) (head .removed) (band .threshold * head .share)) →
+        Grown n n′ start (during (head .installed) (head .removed) (figures .annual)) →
+        Grown a a′ start (during (head .installed) (head .removed) (figures .allowance)) →
+        Grown t t′ start (during (head .installed) (head .removed) (figures .threshold)) →
         (last ≡ afterMeter at (meterAt file at)) × MeterAdded (four l n a t) (four l′ n′ a′ t′) start bs (meterAt file at)
-    meter-added {l} {n} {a} {t} {l′} {n′} {a′} {t′} {start} r gn ga gt = (r .0 ∙ meter-after, each)
+    meter-added {l} {n} {a} {t} {l′} {n′} {a′} {t′} {start} w r gn ga gt = (r .0 ∙ meter-after, each)
       where
         each : MeterAdded (four l n a t) (four l′ n′ a′ t′) start bs (meterAt file at)
         each litresSheet = subst (λ m. Grown l l′ start (meterLitres m)) meter-is (r .1)
-        each annualSheet = grown-as (weighed-is (λ b. b .annual)) gn
-        each allowanceSheet = grown-as (weighed-is (λ b. b .allowance)) ga
-        each thresholdSheet = grown-as (weighed-is (λ b. b .threshold)) gt
+        each annualSheet = grown-as (weighed-is (λ b. b .annual) (w .annual)) gn
+        each allowanceSheet = grown-as (weighed-is (λ b. b .allowance) (w .allowance)) ga
+        each thresholdSheet = grown-as (weighed-is (λ b. b .threshold) (w .threshold)) gt
+
+    module _ {figures : Figures} (w : Weights band (head .share) figures) (every : Figures) (fresh : Bool) (l n a t : List ℕ) {start : ℕ} where
+      module _ (r : MeterRoom (standing every fresh l n a t) start bs (meterAt file at)) where
+        annual-room : Room (raised (every .annual) (counted fresh n)) start (during (head .installed) (head .removed) (figures .annual))
+        annual-room = room-as (λ d. sym (weighed-is (λ b. b .annual) (w .annual) d)) (r annualSheet)
+
+        allowance-room : Room (raised (every .allowance) (counted fresh a)) start (during (head .installed) (head .removed) (figures .allowance))
+        allowance-room = room-as (λ d. sym (weighed-is (λ b. b .allowance) (w .allowance) d)) (r allowanceSheet)
+
+        threshold-room : Room (raised (every .threshold) (counted fresh t)) start (during (head .installed) (head .removed) (figures .threshold))
+        threshold-room = room-as (λ d. sym (weighed-is (λ b. b .threshold) (w .threshold) d)) (r thresholdSheet)
+
+        -- there is room for its figures on its days
+        pub put-rooms :
+            Room (counted fresh n) start (during (head .installed) (head .removed) (figures .annual))
+            × Room (counted fresh a) start (during (head .installed) (head .removed) (figures .allowance))
+            × Room (counted fresh t) start (during (head .installed) (head .removed) (figures .threshold))
+        put-rooms =
+            (raised-room (every .annual) (counted fresh n) annual-room, raised-room (every .allowance) (counted fresh a) allowance-room, raised-room (every .threshold) (counted fresh t) threshold-room)
+
+        -- and in the sums, where its days are all days
+        pub sums-fit : AllAlike (length n) (length a) (length t) start (head .installed) (head .removed) →
+            (every .annual + figures .annual < 2 ^ 64) × (every .allowance + figures .allowance < 2 ^ 64) × (every .threshold + figures .threshold < 2 ^ 64)
+        sums-fit o =
+            (all-room fresh n (o .0) (every .annual) (figures .annual) annual-room, all-room fresh a (o .1) (every .allowance) (figures .allowance) allowance-room, all-room fresh t (o .2) (every .threshold) (figures .threshold) threshold-room)
+
+      module _ {l′ : List ℕ} {last : ℕ} (r : (last ≡ afterReads next (reads file (head .reads) next)) × Grown l l′ start (meterLitres (meterOf head (reads file (head .reads) next)))) where
+        -- its figures were added to the sums
+        pub kept-added : {sums : Figures} → AllAlike (length n) (length a) (length t) start (head .installed) (head .removed) → Sums every figures sums →
+            (last ≡ afterMeter at (meterAt file at)) × MeterAdded (standing every fresh l n a t) (standing sums fresh l′ n a t) start bs (meterAt file at)
+        kept-added o u =
+            meter-added w r
+            (all-grown fresh n (o .0) (every .annual) (figures .annual) (u .annual))
+            (all-grown fresh a (o .1) (every .allowance) (figures .allowance) (u .allowance))
+            (all-grown fresh t (o .2) (every .threshold) (figures .threshold) (u .threshold))
+
+        -- they were put on the sheets, which then are not fresh
+        pub put-added : {n′ a′ t′ : List ℕ} →
+            Grown (counted fresh n) n′ start (during (head .installed) (head .removed) (figures .annual)) →
+            Grown (counted fresh a) a′ start (during (head .installed) (head .removed) (figures .allowance)) →
+            Grown (counted fresh t) t′ start (during (head .installed) (head .removed) (figures .threshold)) →
+            (last ≡ afterMeter at (meterAt file at)) × MeterAdded (standing every fresh l n a t) (standing every false l′ n′ a′ t′) start bs (meterAt file at)
+        put-added gn ga gt =
+            meter-added w r (raised-grown (every .annual) (counted fresh n) gn) (raised-grown (every .allowance) (counted fresh a) ga) (raised-grown (every .threshold) (counted fresh t) gt)
 
 -- WHAT FITS: a meter's figures of a day
 pub pair-spreads : (m : Meter) (a b : Read) → GoodMeter m → GoodRead (meterHead m) a → GoodAdvance (meterHead m) a b → Spreadable (advance m a b) (m .share * m .returned) (a .day) (b .day)
@@ -144,11 +188,14 @@ pub record MetersLeft (before after : MeterSheet → List ℕ) (start : ℕ) (bs
 abbrev pub Cleared : (MeterSheet → List ℕ) → (MeterSheet → List ℕ) → Type 0
 Cleared before after = (s : MeterSheet) → Filled (before s) (after s) 0 (λ d. 0)
 
-pub cleared : {l l′ : List ℕ} (n a t : List ℕ) → Filled l l′ 0 (λ d. 0) → Cleared (four l n a t) (four l′ (counted true n) (counted true a) (counted true t))
+abbrev pub nothing : Figures
+nothing = record { annual = 0; allowance = 0; threshold = 0 }
+
+pub cleared : {l l′ : List ℕ} (n a t : List ℕ) → Filled l l′ 0 (λ d. 0) → Cleared (four l n a t) (standing nothing true l′ n a t)
 cleared n a t fl litresSheet = fl
-cleared n a t fl annualSheet = counted-none n
-cleared n a t fl allowanceSheet = counted-none a
-cleared n a t fl thresholdSheet = counted-none t
+cleared n a t fl annualSheet = raised-none n
+cleared n a t fl allowanceSheet = raised-none a
+cleared n a t fl thresholdSheet = raised-none t
 
 module _ {l a : MeterSheet → List ℕ} {start : ℕ} (o : Cleared l a) where
   pub meters-begin : {bs : List Band} {ms : List Meter} → All GoodBand bs → All GoodMeter ms → length ms ≤ 16 → MetersLeft a a start bs ms ms
@@ -181,3 +228,7 @@ module _ {l a : MeterSheet → List ℕ} {start : ℕ} {bs : List Band} {all : L
   pub meters-turn : {b : MeterSheet → List ℕ} → MeterAdded a b start bs m → MetersLeft l b start bs all left
   unfolding over
   meters-turn g = record { good = u .good .1; room = u .room; rest = λ s. rest-more (u .rest s) (g s) (λ d. refl) }
+
+-- what the sheets have fits
+pub meters-fit : {l a : MeterSheet → List ℕ} {start : ℕ} {bs : List Band} {all left : List Meter} → MetersLeft l a start bs all left → (s : MeterSheet) → Room (a s) start (λ d. 0)
+meters-fit u s = rest-room (u .rest s) (u .room s) (λ d. zero-le)

@@ -1,8 +1,8 @@
 -- A meter's reads and the tariff's bands, one at a time. Assumes nothing.
-use Prim.Native.Nat.{ℕ, _+_, _-_, _*_, _≤_, _<_}
+use Prim.Native.Nat.{ℕ, suc, _+_, _-_, _*_, _≤_, _<_}
 use mathlib.Core.Path.{_≡_, refl, sym, ap, _∙_, subst}
 use mathlib.Core.Bool.{Bool, true, false, cond}
-use mathlib.Core.List.{List, [], _∷_}
+use mathlib.Core.List.{List, [], _∷_, map}
 use native.Mathlib.Nat.{pow-le-pow-right, mul-le-mul}
 use native.Mathlib.Omega.{arith}
 use borrow.Author.Tests.{eq-eqb, ne-eqb}
@@ -10,11 +10,12 @@ use lib.Dec.{leb}
 use Rattle.rules.specs.declared.Read.{Read}
 use Rattle.rules.specs.declared.Band.{Band}
 use Rattle.rules.specs.declared.MeterHead.{MeterHead}
-use Rattle.rules.specs.Lists.{All, latest}
+use Rattle.rules.specs.Lists.{All, Ascending, latest}
 use Rattle.rules.specs.File.{Meter, records, after, meterHead, readAt, reads, afterRead, afterReads, bandAt, bands, afterBand, afterBands}
 use Rattle.rules.specs.Litres.{dialValues, advance, betweenReads, fromReads, meterLitres}
 use Rattle.rules.specs.Charges.{noBand, firstBand, bandFor}
 use Rattle.rules.specs.Good.{GoodMeterHead, GoodRead, GoodAdvance, GoodAdvances, GoodMeter}
+use Rattle.rules.proofs.Lists.{latest-ahead, latest-here}
 use Rattle.records.proofs.Positions.{length-records}
 use Rattle.sheet.specs.Sheets.{Grown, Room}
 use Rattle.sheet.specs.Meters.{during, carried, spread, Spreadable, meterOf}
@@ -129,25 +130,26 @@ module _ (file : List ℕ) (m : MeterHead) (at start : ℕ) where
         let v = ahead-done u z in
         (v .0 ∙ sym (read-past (readAt file) (λ at r. afterRead at) (m .reads) at h e), subst (λ rs. Grown l a start (meterLitres (meterOf m rs))) (sym begun) (reads-end (v .1)))
 
--- BANDS: `served` is what serves a size, of the band that stands at `best` and then the bands that are left
-abbrev pub BandsLeft : List ℕ → ℕ → Band → ℕ → List Band → Type 0
-BandsLeft file size served best left = latest (λ b. b .size) (λ b. b) (bandAt file best) left size ≡ served
+-- BANDS: `served` is what serves a size, of the band that stands at `best` and then the bands that are left, whose sizes ascend
+pub record Serving (file : List ℕ) (size : ℕ) (served : Band) (best : ℕ) (left : List Band) : Type 0 where
+  pub low : ℕ
+  pub rising : Ascending low (map (λ b. b .size) left)
+  pub is : latest (λ b. b .size) (λ b. b) (bandAt file best) left size ≡ served
 
-cond-of : {A : Type 0} (g : ℕ → A) (t : Bool) (x y : ℕ) → cond t (g x) (g y) ≡ g (cond t x y)
-cond-of g true x y = refl
-cond-of g false x y = refl
+module _ (file : List ℕ) (size : ℕ) {served : Band} {best : ℕ} (next : Band) (left : List Band) (u : Serving file size served best (next ∷ left)) where
+  -- a band that is not above the size, and one that is
+  pub serves-next : {at : ℕ} → next ≡ bandAt file at → next .size ≤ size → Serving file size served at left
+  serves-next e h =
+      record {
+        low = suc (next .size);
+        rising = u .rising .1;
+        is = ap (λ b. latest (λ b. b .size) (λ b. b) b left size) (sym e) ∙ (sym (latest-here (λ b. b .size) size (λ b. b) (bandAt file best) next left h) ∙ u .is);
+      }
 
-pub nearer-within : (t : Bool) {at best nearer : ℕ} → nearer ≡ cond t at best → best < at → nearer ≤ at
-nearer-within true e h = omega (arith, e)
-nearer-within false e h = omega (arith, e)
+  pub serves-best : size < next .size → bandAt file best ≡ served
+  serves-best h = sym (latest-ahead (λ b. b .size) size (λ b. b) (bandAt file best) (u .low) next left (u .rising) h) ∙ u .is
 
 module _ (file : List ℕ) (size : ℕ) where
-  pub bands-turn : {served : Band} {nearer : ℕ} (best at : ℕ) (left : List Band) → nearer ≡ cond (leb (bandAt file at .size) size) at best → BandsLeft file size served best (bandAt file at ∷ left) →
-      BandsLeft file size served nearer left
-  unfolding latest
-  bands-turn best at left e u =
-      ap (λ b. latest (λ b. b .size) (λ b. b) b left size) (ap (bandAt file) e ∙ sym (cond-of (bandAt file) (leb (bandAt file at .size) size) at best)) ∙ u
-
   cond-same : {A : Type 0} (t : Bool) (x : A) → cond t x x ≡ x
   cond-same true x = refl
   cond-same false x = refl
@@ -158,18 +160,30 @@ module _ (file : List ℕ) (size : ℕ) where
     no-size e z = e ∙ simp (eq-eqb size 0 z)
 
     -- the bands behind the first
-    abbrev pub bandsBehind : List Band
+    abbrev bandsBehind : List Band
     bandsBehind = bands file (n - 1) (afterBand at)
+
+    -- what serves, of the first and of them
+    abbrev pub servedBy : Band
+    servedBy = latest (λ b. b .size) (λ b. b) (bandAt file at) bandsBehind size
 
     module _ (h : 0 < n) where
       pub bands-end : afterBands (afterBand at) bandsBehind ≡ afterBands at (bands file n at)
       bands-end = sym (read-past (bandAt file) (λ at b. afterBand at) n at h (refl, refl))
 
-      pub bands-done : (best : ℕ) {left last end : ℕ} → left ≡ 0 → (size ≡ 0 → ⊥) →
-          Ahead (bandAt file) (λ at b. afterBand at) left last end (BandsLeft file size (latest (λ b. b .size) (λ b. b) (bandAt file at) bandsBehind size) best) →
-          bandAt file best ≡ bandFor (bands file n at) size
+      first-band : bands file n at ≡ bandAt file at ∷ bandsBehind
+      first-band = read-one (bandAt file) (λ at b. afterBand at) n at h (refl, refl)
+
+      pub serves-first : Ascending 0 (map (λ b. b .size) (bands file n at)) → Serving file size servedBy at bandsBehind
+      serves-first rising = record { low = suc (bandAt file at .size); rising = subst (λ bs. Ascending 0 (map (λ b. b .size) bs)) first-band rising .1; is = refl }
+
+      pub served-is : (size ≡ 0 → ⊥) → servedBy ≡ bandFor (bands file n at) size
       unfolding latest bandFor firstBand
-      bands-done best z s u =
-          ahead-done u z .1
-          ∙ ap (λ b. latest (λ b. b .size) (λ b. b) b bandsBehind size) (sym (cond-same (leb (bandAt file at .size) size) (bandAt file at)))
-          ∙ sym (ap (λ bs. bandFor bs size) (read-one (bandAt file) (λ at b. afterBand at) n at h (refl, refl)) ∙ simp (ne-eqb size 0 s))
+      served-is s =
+          ap (λ b. latest (λ b. b .size) (λ b. b) b bandsBehind size) (sym (cond-same (leb (bandAt file at .size) size) (bandAt file at)))
+          ∙ sym (ap (λ bs. bandFor bs size) first-band ∙ simp (ne-eqb size 0 s))
+
+-- when no band is left
+pub serves-last : {file : List ℕ} {size best : ℕ} {served : Band} → Serving file size served best [] → bandAt file best ≡ served
+unfolding latest
+serves-last u = u .is

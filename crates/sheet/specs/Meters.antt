@@ -1,18 +1,20 @@
 -- What the sheets of a supply point hold of its meters, and what is asked of meters and bands.
 use Prim.Native.Nat.{ℕ, _+_, _-_, _*_, _^_, _≤_, _<_}
-use mathlib.Core.Bool.{_&&_}
-use mathlib.Core.List.{List}
+use mathlib.Core.Path.{_≡_}
+use mathlib.Core.Bool.{Bool, _&&_}
+use mathlib.Core.List.{List, map}
 use lib.Dec.{leb, ltb}
 use Rattle.rules.specs.declared.Band.{Band}
 use Rattle.rules.specs.declared.Read.{Read}
 use Rattle.rules.specs.declared.MeterHead.{MeterHead}
 use Rattle.rules.specs.Sums.{only, over}
-use Rattle.rules.specs.Lists.{All}
+use Rattle.rules.specs.Lists.{All, Ascending}
 use Rattle.rules.specs.File.{Meter, bands, meters, afterBands, afterMeters}
 use Rattle.rules.specs.Litres.{carriedBefore, meterLitres}
 use Rattle.rules.specs.Charges.{bandFor}
 use Rattle.rules.specs.Good.{GoodBand, GoodMeter}
-use Rattle.sheet.specs.Sheets.{Filled, Grown, Room}
+use Rattle.sheet.specs.declared.Figures.{Figures}
+use Rattle.sheet.specs.Sheets.{Filled, Grown, Room, counted, raised}
 
 -- x on the days from `first` on, before `last`
 unfoldable pub during : ℕ → ℕ → ℕ → ℕ → ℕ
@@ -51,6 +53,17 @@ meterOf h rs =
 unfoldable pub weighed : (Band → ℕ) → List Band → Meter → ℕ → ℕ
 weighed figure bs m d = during (m .installed) (m .removed) (figure (bandFor bs (m .size)) * m .share) d
 
+-- the figures of a band × a share, and the sums of two such
+pub record Weights (b : Band) (share : ℕ) (r : Figures) : Type 0 where
+  pub annual : r .annual ≡ b .annual * share
+  pub allowance : r .allowance ≡ b .allowance * share
+  pub threshold : r .threshold ≡ b .threshold * share
+
+pub record Sums (x y r : Figures) : Type 0 where
+  pub annual : r .annual ≡ x .annual + y .annual
+  pub allowance : r .allowance ≡ x .allowance + y .allowance
+  pub threshold : r .threshold ≡ x .threshold + y .threshold
+
 -- the four sheets of meters, and what each holds of a meter on a day
 pub data MeterSheet : Type 0 where
   litresSheet : MeterSheet
@@ -70,6 +83,11 @@ four litres annual allowance threshold annualSheet = annual
 four litres annual allowance threshold allowanceSheet = allowance
 four litres annual allowance threshold thresholdSheet = threshold
 
+-- the four, where `every` is still to be put on all days; of the figures nothing counts where the sheets are fresh
+abbrev pub standing : Figures → Bool → List ℕ → List ℕ → List ℕ → List ℕ → MeterSheet → List ℕ
+standing every fresh litres annual allowance threshold =
+    four litres (raised (every .annual) (counted fresh annual)) (raised (every .allowance) (counted fresh allowance)) (raised (every .threshold) (counted fresh threshold))
+
 -- room for a meter, and the sheets after it
 abbrev pub MeterRoom : (MeterSheet → List ℕ) → ℕ → List Band → Meter → Type 0
 MeterRoom sheets start bs m = (s : MeterSheet) → Room (sheets s) start (meterFigure bs s m)
@@ -87,5 +105,6 @@ pub record GoodMeters (file : List ℕ) (n at k tariff : ℕ) : Type 0 where
   pub sound : All GoodMeter (meters file n at)
   pub some : 1 ≤ k
   pub priced : All GoodBand (bands file k tariff)
+  pub rising : Ascending 0 (map (λ b. b .size) (bands file k tariff))
   pub metersEnd : afterMeters at (meters file n at) < 2 ^ 32
   pub bandsEnd : afterBands tariff (bands file k tariff) < 2 ^ 32

@@ -1,10 +1,11 @@
--- `sheet::add_meter` meets its contract: each of the four sheets grows by the meter's figure. Assumes nothing.
+-- `sheet::add_meter` meets its contract: each of the four sheets grows by the meter's figure, on the sheet or in the sums. Assumes nothing.
 use native.Mathlib.Omega.{arith}
 use denote.Ref.{now}
 use Rattle.rules.specs.File.{bands, meterAt}
 use Rattle.records.proofs.Positions.{meter-forward}
-use Rattle.sheet.specs.Meters.{litresSheet, annualSheet, allowanceSheet, thresholdSheet}
-use Rattle.sheet.proofs.MeterSheets.{annual-figure, allowance-figure, threshold-figure, weight-fits, weight-room, meter-asks, meter-added}
+use Rattle.sheet.specs.Meters.{litresSheet}
+use Rattle.sheet.proofs.Growth.{all-alike}
+use Rattle.sheet.proofs.MeterSheets.{meter-asks, weights-fit, put-rooms, sums-fit, kept-added, put-added}
 use borrow.Author.Needs.{needs}
 use Rattle.sheet.proofs.add_meter.Statement.{statement}
 use Rattle.sheet.proofs.add_meter.Tie as tie
@@ -15,29 +16,32 @@ meter-requires c κs = let s = c .before .before .before .before .before .args i
 band-for-requires : tie.Need-band-for-requires
 band-for-requires c κs = search needs
 
-mul-put-during : tie.Need-mul-put-during
-mul-put-during c = let s = c .before .before .before .before .before .before .before .before .before .before .before .args in let p = c .before .before .before .before .before .before .before .before .before .before .before .pre in omega (arith, weight-fits (now (s .file)) (s .c .at) (c .before .before .before .before .before .meter .ensures) (bands (now (s .file)) (s .count) (s .tariff .at)) (c .before .before .before .band-for .ensures) annual-figure (p .1 .1 .1 .0) (p .1 .1 .0))
-
-put-during-requires : tie.Need-put-during-requires
-put-during-requires c κs = let s = c .before .before .before .before .before .before .before .before .before .before .before .args in weight-room (now (s .file)) (s .c .at) (c .before .before .before .before .before .meter .ensures) (bands (now (s .file)) (s .count) (s .tariff .at)) (c .before .before .before .band-for .ensures) (λ b. b .annual) (c .before .before .before .before .before .before .before .before .before .before .before .pre .1 .1 .1 .1 annualSheet)
-
-mul-put-during-2 : tie.Need-mul-put-during-2
-mul-put-during-2 c = let s = c .before .before .before .before .before .before .before .before .before .before .before .before .before .before .before .before .before .args in let p = c .before .before .before .before .before .before .before .before .before .before .before .before .before .before .before .before .before .pre in omega (arith, weight-fits (now (s .file)) (s .c .at) (c .before .before .before .before .before .before .before .before .before .before .before .meter .ensures) (bands (now (s .file)) (s .count) (s .tariff .at)) (c .before .before .before .before .before .before .before .before .before .band-for .ensures) allowance-figure (p .1 .1 .1 .0) (p .1 .1 .0))
-
-put-during-requires-2 : tie.Need-put-during-requires-2
-put-during-requires-2 c κs = let s = c .before .before .before .before .before .before .before .before .before .before .before .before .before .before .before .before .before .args in weight-room (now (s .file)) (s .c .at) (c .before .before .before .before .before .before .before .before .before .before .before .meter .ensures) (bands (now (s .file)) (s .count) (s .tariff .at)) (c .before .before .before .before .before .before .before .before .before .band-for .ensures) (λ b. b .allowance) (c .before .before .before .before .before .before .before .before .before .before .before .before .before .before .before .before .before .pre .1 .1 .1 .1 allowanceSheet)
-
-mul-put-during-3 : tie.Need-mul-put-during-3
-mul-put-during-3 c = let s = c .before .before .before .before .before .before .before .before .before .before .before .before .before .before .before .before .before .before .before .before .before .before .before .args in let p = c .before .before .before .before .before .before .before .before .before .before .before .before .before .before .before .before .before .before .before .before .before .before .before .pre in omega (arith, weight-fits (now (s .file)) (s .c .at) (c .before .before .before .before .before .before .before .before .before .before .before .before .before .before .before .before .before .meter .ensures) (bands (now (s .file)) (s .count) (s .tariff .at)) (c .before .before .before .before .before .before .before .before .before .before .before .before .before .before .before .band-for .ensures) threshold-figure (p .1 .1 .1 .0) (p .1 .1 .0))
-
-put-during-requires-3 : tie.Need-put-during-requires-3
-put-during-requires-3 c κs = let s = c .before .before .before .before .before .before .before .before .before .before .before .before .before .before .before .before .before .before .before .before .before .before .before .args in weight-room (now (s .file)) (s .c .at) (c .before .before .before .before .before .before .before .before .before .before .before .before .before .before .before .before .before .meter .ensures) (bands (now (s .file)) (s .count) (s .tariff .at)) (c .before .before .before .before .before .before .before .before .before .before .before .before .before .before .before .band-for .ensures) (λ b. b .threshold) (c .before .before .before .before .before .before .before .before .before .before .before .before .before .before .before .before .before .before .before .before .before .before .before .pre .1 .1 .1 .1 thresholdSheet)
+figures-of-requires : tie.Need-figures-of-requires
+figures-of-requires c κs = let s = c .before .before .before .before .before .before .before .before .args in let p = c .before .before .before .before .before .before .before .before .pre in weights-fit (now (s .file)) (s .c .at) (c .before .before .meter .ensures) (bands (now (s .file)) (s .count) (s .tariff .at)) (c .band-for .ensures) (p .1 .1 .1 .0) (p .1 .1 .0)
 
 add-reads-requires : tie.Need-add-reads-requires
-add-reads-requires c κs = let s = c .before .before .before .before .before .before .before .before .before .before .before .before .before .before .before .before .before .before .before .before .before .before .before .before .before .before .before .args in let p = c .before .before .before .before .before .before .before .before .before .before .before .before .before .before .before .before .before .before .before .before .before .before .before .before .before .before .before .pre in meter-asks (now (s .file)) (s .c .at) (c .before .before .before .before .before .before .before .before .before .before .before .before .before .before .before .before .before .before .before .before .before .meter .ensures) (p .0) (p .1 .1 .0) (p .1 .1 .1 .1 litresSheet)
+add-reads-requires c κs = let s = c .before .before .before .before .before .before .before .before .before .before .args in let p = c .before .before .before .before .before .before .before .before .before .before .pre in meter-asks (now (s .file)) (s .c .at) (c .before .before .before .before .meter .ensures) (p .0) (p .1 .1 .0) (p .1 .1 .1 .1 litresSheet)
+
+on-all-days-requires : tie.Need-on-all-days-requires
+on-all-days-requires c κs = search needs
+
+both-requires : tie.Need-both-requires
+both-requires c κs = let s = c .before .before .before .before .before .before .before .before .before .before .before .before .before .before .before .args in sums-fit (now (s .file)) (s .c .at) (c .before .before .before .before .before .before .before .before .before .meter .ensures) (bands (now (s .file)) (s .count) (s .tariff .at)) (c .before .before .before .before .before .before .before .band-for .ensures) (c .before .before .before .before .before .before .figures-of .ensures) (s .every) (s .fresh) (now (s .litres)) (now (s .annual)) (now (s .allowance)) (now (s .threshold)) (c .before .before .before .before .before .before .before .before .before .before .before .before .before .before .before .pre .1 .1 .1 .1) (all-alike (c .if1 .taken) (c .before .on-all-days .ensures))
 
 same-length : tie.Need-same-length
 same-length c = search needs
+
+returns : tie.Need-returns
+returns c = let s = c .before .before .before .before .before .before .before .before .before .before .before .before .before .before .before .before .args in kept-added (now (s .file)) (s .c .at) (c .before .before .before .before .before .before .before .before .before .before .meter .ensures) (bands (now (s .file)) (s .count) (s .tariff .at)) (c .before .before .before .before .before .before .before .before .band-for .ensures) (c .before .before .before .before .before .before .before .figures-of .ensures) (s .every) (s .fresh) (now (s .litres)) (now (s .annual)) (now (s .allowance)) (now (s .threshold)) (c .before .before .before .before .before .add-reads .ensures) (all-alike (c .before .if1 .taken) (c .before .before .on-all-days .ensures)) (c .both .ensures)
+
+put-during-requires : tie.Need-put-during-requires
+put-during-requires c κs = let s = c .before .before .before .before .before .before .before .before .before .before .before .before .before .before .before .before .args in put-rooms (now (s .file)) (s .c .at) (c .before .before .before .before .before .before .before .before .before .before .meter .ensures) (bands (now (s .file)) (s .count) (s .tariff .at)) (c .before .before .before .before .before .before .before .before .band-for .ensures) (c .before .before .before .before .before .before .before .figures-of .ensures) (s .every) (s .fresh) (now (s .litres)) (now (s .annual)) (now (s .allowance)) (now (s .threshold)) (c .before .before .before .before .before .before .before .before .before .before .before .before .before .before .before .before .pre .1 .1 .1 .1) .0
+
+put-during-requires-2 : tie.Need-put-during-requires-2
+put-during-requires-2 c κs = let s = c .before .before .before .before .before .before .before .before .before .before .before .before .before .before .before .before .before .before .before .before .args in put-rooms (now (s .file)) (s .c .at) (c .before .before .before .before .before .before .before .before .before .before .before .before .before .before .meter .ensures) (bands (now (s .file)) (s .count) (s .tariff .at)) (c .before .before .before .before .before .before .before .before .before .before .before .before .band-for .ensures) (c .before .before .before .before .before .before .before .before .before .before .before .figures-of .ensures) (s .every) (s .fresh) (now (s .litres)) (now (s .annual)) (now (s .allowance)) (now (s .threshold)) (c .before .before .before .before .before .before .before .before .before .before .before .before .before .before .before .before .before .before .before .before .pre .1 .1 .1 .1) .1
+
+put-during-requires-3 : tie.Need-put-during-requires-3
+put-during-requires-3 c κs = let s = c .before .before .before .before .before .before .before .before .before .before .before .before .before .before .before .before .before .before .before .before .before .before .before .before .args in put-rooms (now (s .file)) (s .c .at) (c .before .before .before .before .before .before .before .before .before .before .before .before .before .before .before .before .before .before .meter .ensures) (bands (now (s .file)) (s .count) (s .tariff .at)) (c .before .before .before .before .before .before .before .before .before .before .before .before .before .before .before .before .band-for .ensures) (c .before .before .before .before .before .before .before .before .before .before .before .before .before .before .before .figures-of .ensures) (s .every) (s .fresh) (now (s .litres)) (now (s .annual)) (now (s .allowance)) (now (s .threshold)) (c .before .before .before .before .before .before .before .before .before .before .before .before .before .before .before .before .before .before .before .before .before .before .before .before .pre .1 .1 .1 .1) .2
 
 same-length-2 : tie.Need-same-length-2
 same-length-2 c = search needs
@@ -48,8 +52,11 @@ same-length-3 c = search needs
 same-length-4 : tie.Need-same-length-4
 same-length-4 c = search needs
 
-returns : tie.Need-returns
-returns c = let s = c .before .before .before .before .before .before .before .before .before .before .before .before .before .before .before .before .before .before .before .before .before .before .before .before .before .before .before .before .before .before .args in meter-added (now (s .file)) (s .c .at) (c .before .before .before .before .before .before .before .before .before .before .before .before .before .before .before .before .before .before .before .before .before .before .before .before .meter .ensures) (bands (now (s .file)) (s .count) (s .tariff .at)) (c .before .before .before .before .before .before .before .before .before .before .before .before .before .before .before .before .before .before .before .before .before .before .band-for .ensures) (c .before .before .add-reads .ensures) (c .before .before .before .before .before .before .before .before .before .before .before .before .before .before .before .before .before .before .put-during .ensures) (c .before .before .before .before .before .before .before .before .before .before .before .before .put-during2 .ensures) (c .before .before .before .before .before .before .put-during3 .ensures)
+same-length-5 : tie.Need-same-length-5
+same-length-5 c = search needs
+
+returns-2 : tie.Need-returns-2
+returns-2 c = let s = c .before .before .before .before .before .before .before .before .before .before .before .before .before .before .before .before .before .before .before .before .before .before .before .before .before .before .before .args in put-added (now (s .file)) (s .c .at) (c .before .before .before .before .before .before .before .before .before .before .before .before .before .before .before .before .before .before .before .before .before .meter .ensures) (bands (now (s .file)) (s .count) (s .tariff .at)) (c .before .before .before .before .before .before .before .before .before .before .before .before .before .before .before .before .before .before .before .band-for .ensures) (c .before .before .before .before .before .before .before .before .before .before .before .before .before .before .before .before .before .before .figures-of .ensures) (s .every) (s .fresh) (now (s .litres)) (now (s .annual)) (now (s .allowance)) (now (s .threshold)) (c .before .before .before .before .before .before .before .before .before .before .before .before .before .before .before .before .add-reads .ensures) (c .before .before .before .before .before .before .before .before .before .before .put-during .ensures) (c .before .before .before .before .before .before .put-during2 .ensures) (c .before .before .put-during3 .ensures)
 
 pub add-meter-spec : {M : Type 1} → statement M
 add-meter-spec =
@@ -57,15 +64,17 @@ add-meter-spec =
     (tie.spec
     meter-requires
     band-for-requires
-    mul-put-during
-    put-during-requires
-    mul-put-during-2
-    put-during-requires-2
-    mul-put-during-3
-    put-during-requires-3
+    figures-of-requires
     add-reads-requires
+    on-all-days-requires
+    both-requires
     same-length
+    returns
+    put-during-requires
+    put-during-requires-2
+    put-during-requires-3
     same-length-2
     same-length-3
     same-length-4
-    returns)
+    same-length-5
+    returns-2)

@@ -1,4 +1,4 @@
--- `sheet::fill_meters` meets its contract: what the sheets have, and what the meters that are left are to add, are the point's figures. Assumes nothing.
+-- `sheet::fill_meters` meets its contract: what the sheets and the sums have, and what the meters that are left are to add, are the point's figures. Assumes nothing.
 use mathlib.Core.Path.{refl, ap, _∙_}
 use mathlib.Core.Bool.{true}
 use native.Mathlib.Omega.{arith}
@@ -7,19 +7,19 @@ use lib.ListN.{length}
 use Rattle.rules.specs.File.{bands as bandsFrom, meterAt, afterMeter, meters, afterMeters}
 use Rattle.records.proofs.Positions.{length-records, meter-forward}
 use Rattle.sheet.specs.Sheets.{counted}
-use Rattle.sheet.specs.Meters.{litresSheet, annualSheet, allowanceSheet, thresholdSheet, four}
+use Rattle.sheet.specs.Meters.{litresSheet, annualSheet, allowanceSheet, thresholdSheet, standing}
 use Rattle.records.proofs.Ahead.{Ahead, ahead-past, ahead-one, ahead-turn, ahead-done}
-use Rattle.sheet.proofs.Growth.{counted-none}
-use Rattle.sheet.proofs.MeterSheets.{MetersLeft, cleared, meters-begin, meters-room, meters-turn, meters-end}
+use Rattle.sheet.proofs.Growth.{raised-none, raise-room}
+use Rattle.sheet.proofs.MeterSheets.{MetersLeft, nothing, cleared, meters-begin, meters-room, meters-turn, meters-fit, meters-end}
 use borrow.Author.Needs.{needs}
 use Rattle.sheet.proofs.fill_meters.Statement.{statement}
 use Rattle.sheet.proofs.fill_meters.Tie as tie
 
 abbrev Inv-loop : tie.InvT-loop
-Inv-loop file count tariff bands litres₀ annual₀ allowance₀ threshold₀ start fresh₀ next₀ left₀ litres annual allowance threshold fresh next left = Ahead (meterAt file) afterMeter left (next .at) (afterMeters (next₀ .at) (meters file count (next₀ .at))) (MetersLeft (four litres₀ (counted true annual₀) (counted true allowance₀) (counted true threshold₀)) (four litres (counted fresh annual) (counted fresh allowance) (counted fresh threshold)) start (bandsFrom file bands (tariff .at)) (meters file count (next₀ .at)))
+Inv-loop file count tariff bands litres₀ annual₀ allowance₀ threshold₀ start every₀ fresh₀ next₀ left₀ litres annual allowance threshold every fresh next left = Ahead (meterAt file) afterMeter left (next .at) (afterMeters (next₀ .at) (meters file count (next₀ .at))) (MetersLeft (standing nothing true litres₀ annual₀ allowance₀ threshold₀) (standing every fresh litres annual allowance threshold) start (bandsFrom file bands (tariff .at)) (meters file count (next₀ .at)))
 
 abbrev μ-loop : tie.MeasureT-loop
-μ-loop file count tariff bands litres₀ annual₀ allowance₀ threshold₀ start fresh₀ next₀ left₀ litres annual allowance threshold fresh next left = left
+μ-loop file count tariff bands litres₀ annual₀ allowance₀ threshold₀ start every₀ fresh₀ next₀ left₀ litres annual allowance threshold every fresh next left = left
 
 clear-requires : tie.Need-clear-requires Inv-loop μ-loop
 clear-requires c κs = search needs
@@ -28,7 +28,7 @@ loop-holds : tie.Need-loop-holds Inv-loop μ-loop
 loop-holds c = let s = c .before .before .before .before .before .before .before .before .before .args in let g = c .before .before .before .before .before .before .before .before .before .pre in record { ends = refl; holds = meters-begin (cleared (now (s .annual)) (now (s .allowance)) (now (s .threshold)) (c .before .before .clear .ensures)) (g .priced) (g .sound) (omega (arith, g .few, length-records (meterAt (now (s .file))) afterMeter (s .count) (s .c .at))) }
 
 add-meter-requires : tie.Need-add-meter-requires Inv-loop μ-loop
-add-meter-requires c κs = let g = c .before .before .before .before .before .before .before .before .before .before .before .before .before .before .before .pre in let u = c .before .before .before .before .before .loop .inv in let h = c .before .before .before .before .loop-test .taken in (omega (arith, g .metersEnd, ahead-past u h (refl, refl) meter-forward), ((g .some, g .bandsEnd), (ahead-one u h (refl, refl) (λ ms v. v .good .0), (g .priced, ahead-one u h (refl, refl) (λ ms v. meters-room _ ms v)))))
+add-meter-requires c κs = let g = c .before .before .before .before .before .before .before .before .before .before .before .before .before .before .before .pre in let u = c .before .before .before .before .before .loop .inv in let h = c .before .before .before .before .loop-test .taken in (omega (arith, g .metersEnd, ahead-past u h (refl, refl) meter-forward), ((g .some, g .bandsEnd, g .rising), (ahead-one u h (refl, refl) (λ ms v. v .good .0), (g .priced, ahead-one u h (refl, refl) (λ ms v. meters-room _ ms v)))))
 
 sub-left : tie.Need-sub-left Inv-loop μ-loop
 sub-left c = search needs
@@ -37,31 +37,31 @@ loop-less : tie.Need-loop-less Inv-loop μ-loop
 loop-less c = search needs
 
 loop-again : tie.Need-loop-again Inv-loop μ-loop
-loop-again c = ahead-turn (c .before .before .before .before .before .before .before .before .before .before .before .before .before .before .loop .inv) (c .before .before .before .before .before .before .before .before .before .before .before .before .before .loop-test .taken) (refl, c .before .before .before .before .before .before .before .before .add-meter .ensures .0) (λ ms u. meters-turn _ ms u (c .before .before .before .before .before .before .before .before .add-meter .ensures .1))
+loop-again c = ahead-turn (c .before .before .before .before .before .before .before .before .before .before .before .before .before .before .before .before .loop .inv) (c .before .before .before .before .before .before .before .before .before .before .before .before .before .before .before .loop-test .taken) (refl, c .before .before .before .before .before .before .before .before .before .before .add-meter .ensures .0) (λ ms u. meters-turn _ ms u (c .before .before .before .before .before .before .before .before .before .before .add-meter .ensures .1))
 
-clear-fresh-requires : tie.Need-clear-fresh-requires Inv-loop μ-loop
-clear-fresh-requires c κs = search needs
+put-on-all-requires : tie.Need-put-on-all-requires Inv-loop μ-loop
+put-on-all-requires c κs = let l = c .before .before .loop in raise-room (l .every .annual) (counted (l .fresh) (l .annual)) (meters-fit (l .inv .holds) annualSheet)
 
-clear-fresh-requires-2 : tie.Need-clear-fresh-requires-2 Inv-loop μ-loop
-clear-fresh-requires-2 c κs = search needs
+put-on-all-requires-2 : tie.Need-put-on-all-requires-2 Inv-loop μ-loop
+put-on-all-requires-2 c κs = let l = c .before .before .before .before .before .before .loop in raise-room (l .every .allowance) (counted (l .fresh) (l .allowance)) (meters-fit (l .inv .holds) allowanceSheet)
 
-clear-fresh-requires-3 : tie.Need-clear-fresh-requires-3 Inv-loop μ-loop
-clear-fresh-requires-3 c κs = search needs
+put-on-all-requires-3 : tie.Need-put-on-all-requires-3 Inv-loop μ-loop
+put-on-all-requires-3 c κs = let l = c .before .before .before .before .before .before .before .before .before .before .loop in raise-room (l .every .threshold) (counted (l .fresh) (l .threshold)) (meters-fit (l .inv .holds) thresholdSheet)
 
 same-length : tie.Need-same-length Inv-loop μ-loop
 same-length c = c .before .before .before .before .before .before .before .before .before .before .before .before .before .loop .inv .holds .rest litresSheet .long ∙ c .before .before .before .before .before .before .before .before .before .before .before .before .before .before .before .before .clear .ensures .long
 
 same-length-2 : tie.Need-same-length-2 Inv-loop μ-loop
-same-length-2 c = ap length (c .before .before .before .before .before .before .before .before .before .before .clear-fresh .ensures) ∙ c .before .before .before .before .before .before .before .before .before .before .before .before .before .loop .inv .holds .rest annualSheet .long ∙ counted-none (now (c .before .before .before .before .before .before .before .before .before .before .before .before .before .before .before .before .before .before .before .before .before .before .before .args .annual)) .long
+same-length-2 c = ap length (c .before .before .before .before .before .before .before .before .before .before .put-on-all .ensures) ∙ c .before .before .before .before .before .before .before .before .before .before .before .before .before .loop .inv .holds .rest annualSheet .long ∙ raised-none (now (c .before .before .before .before .before .before .before .before .before .before .before .before .before .before .before .before .before .before .before .before .before .before .before .args .annual)) .long
 
 same-length-3 : tie.Need-same-length-3 Inv-loop μ-loop
-same-length-3 c = ap length (c .before .before .before .before .before .before .clear-fresh2 .ensures) ∙ c .before .before .before .before .before .before .before .before .before .before .before .before .before .loop .inv .holds .rest allowanceSheet .long ∙ counted-none (now (c .before .before .before .before .before .before .before .before .before .before .before .before .before .before .before .before .before .before .before .before .before .before .before .args .allowance)) .long
+same-length-3 c = ap length (c .before .before .before .before .before .before .put-on-all2 .ensures) ∙ c .before .before .before .before .before .before .before .before .before .before .before .before .before .loop .inv .holds .rest allowanceSheet .long ∙ raised-none (now (c .before .before .before .before .before .before .before .before .before .before .before .before .before .before .before .before .before .before .before .before .before .before .before .args .allowance)) .long
 
 same-length-4 : tie.Need-same-length-4 Inv-loop μ-loop
-same-length-4 c = ap length (c .before .before .clear-fresh3 .ensures) ∙ c .before .before .before .before .before .before .before .before .before .before .before .before .before .loop .inv .holds .rest thresholdSheet .long ∙ counted-none (now (c .before .before .before .before .before .before .before .before .before .before .before .before .before .before .before .before .before .before .before .before .before .before .before .args .threshold)) .long
+same-length-4 c = ap length (c .before .before .put-on-all3 .ensures) ∙ c .before .before .before .before .before .before .before .before .before .before .before .before .before .loop .inv .holds .rest thresholdSheet .long ∙ raised-none (now (c .before .before .before .before .before .before .before .before .before .before .before .before .before .before .before .before .before .before .before .before .before .before .before .args .threshold)) .long
 
 returns : tie.Need-returns Inv-loop μ-loop
-returns c = let s = c .before .before .before .before .before .before .before .before .before .before .before .before .before .before .before .before .before .before .before .before .before .before .before .args in let done = ahead-done (c .before .before .before .before .before .before .before .before .before .before .before .before .before .loop .inv) (omega arith) in (done .0, rw (c .before .before .before .before .before .before .before .before .before .before .clear-fresh .ensures, c .before .before .before .before .before .before .clear-fresh2 .ensures, c .before .before .clear-fresh3 .ensures) (meters-end (cleared (now (s .annual)) (now (s .allowance)) (now (s .threshold)) (c .before .before .before .before .before .before .before .before .before .before .before .before .before .before .before .before .clear .ensures)) (done .1)))
+returns c = let s = c .before .before .before .before .before .before .before .before .before .before .before .before .before .before .before .before .before .before .before .before .before .before .before .args in let done = ahead-done (c .before .before .before .before .before .before .before .before .before .before .before .before .before .loop .inv) (omega arith) in (done .0, rw (c .before .before .before .before .before .before .before .before .before .before .put-on-all .ensures, c .before .before .before .before .before .before .put-on-all2 .ensures, c .before .before .put-on-all3 .ensures) (meters-end (cleared (now (s .annual)) (now (s .allowance)) (now (s .threshold)) (c .before .before .before .before .before .before .before .before .before .before .before .before .before .before .before .before .clear .ensures)) (done .1)))
 
 pub fill-meters-spec : {M : Type 1} → statement M
 fill-meters-spec =
@@ -75,9 +75,9 @@ fill-meters-spec =
     sub-left
     loop-less
     loop-again
-    clear-fresh-requires
-    clear-fresh-requires-2
-    clear-fresh-requires-3
+    put-on-all-requires
+    put-on-all-requires-2
+    put-on-all-requires-3
     same-length
     same-length-2
     same-length-3
