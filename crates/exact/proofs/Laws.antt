@@ -3,8 +3,10 @@ use Prim.Native.Nat.{ℕ, zero, suc, _+_, _*_, _/_, _%_, _^_, _-_, _≤_, _<_}
 use mathlib.Core.Logic.{_⊎_, inl, inr, ⊎-elim}
 use mathlib.Core.Path.{_≡_, refl, ap, sym, _∙_}
 use native.Mathlib.Omega.{arith}
-use native.Mathlib.Nat.{pow-suc, div-div-eq-div-mul, div-le-self, div-one, mul-le-mul-right, le-div-iff-mul-le}
+use native.Mathlib.Nat.{pow-suc, div-div-eq-div-mul, div-le-self, div-one, le-of-lt, mul-le-mul-left, mul-le-mul-right, mul-lt-mul-of-pos-right, pow-le-pow-right, le-div-iff-mul-le}
 use lib.Arith.{digits-div}
+use lib.Count.{leadingZeros, leading-length}
+use lib.Pow.{pow-pos, pow-add}
 use Rattle.rules.proofs.Shares.{div-mono}
 use Rattle.exact.specs.declared.Parts.{Parts}
 use Rattle.exact.specs.Parts.{value, Of}
@@ -37,9 +39,14 @@ module _ (a b k : ℕ) where
 pub quotient : (d x w r : ℕ) → r < d → w * d + r ≡ x → w ≡ x / d
 quotient d x w r h e = sym (ap (λ z. z / d) (sym e) ∙ digits-div w h)
 
--- a product that fits
-pub product-fits : (a b m : ℕ) → 0 < b → a ≤ m / b → a * b ≤ m
-product-fits a b m h g = le-div-iff-mul-le h .0 g
+-- a product that fits, by the binary digits of its factors
+pub product-fits : (a b : ℕ) → a < 2 ^ 64 → b < 2 ^ 64 → 64 ≤ leadingZeros 64 a + leadingZeros 64 b → a * b < 2 ^ 64
+product-fits a b ha hb h =
+    let p = leading-length 64 a ha in
+    let q = leading-length 64 b hb in
+    let few : p .0 + q .0 ≤ 64 = omega (arith, p .1, q .1) in
+    let all : 2 ^ (p .0 + q .0) ≤ 2 ^ 64 = pow-le-pow-right {n = 2} (omega arith) few in
+    omega (arith, all, pow-add 2 (p .0) (q .0), mul-le-mul-left a (le-of-lt (q .2)), mul-lt-mul-of-pos-right (p .2) (pow-pos (q .0)))
 
 -- a sum whose remainders pass the divisor
 pub carried : (p q : Parts) (d : ℕ) → p .rest < d → q .rest < d → d ≤ p .rest + q .rest →

@@ -3,9 +3,6 @@ ghost use mathlib.Core.Path.{_≡_};
 ghost use Prim.Native.Nat.{_+_, _-_, _*_, _/_, _^_, _<_, min, max};
 ghost use Rattle.exact.specs.Parts.{value, Of};
 
-// The greatest number of 64 bits.
-const MOST: u64 = 18446744073709551615;
-
 // A number by a divisor: how often the divisor goes into it, and what is left.
 struct Parts {
     whole: u64,
@@ -61,15 +58,13 @@ fn long_product(a: u64, b: u64, d: u64) -> Parts
     p
 }
 
-// a * b / d, where the quotient fits, though a * b may need 128 bits. A product that fits 64 bits, as nearly all do, is divided as it is.
+// a * b / d, where the quotient fits, though a * b may need 128 bits. Numbers of m and of n binary digits have a product of at most m + n: nearly
+// all fit 64 bits, and are divided as they are.
 pub fn mul_div(a: u64, b: u64, d: u64) -> u64
     requires { ⌜ (0 < d) × (a * b / d < 2 ^ 64) ⌝ }
     ensures { λ r. ⌜ r ≡ a * b / d ⌝ }
 {
-    if b == 0 {
-        return 0;
-    }
-    if a <= MOST / b {
+    if 64 <= u64::leading_zeros(a) + u64::leading_zeros(b) {
         return a * b / d;
     }
     let parts = long_product(a, b, d);
