@@ -66,6 +66,12 @@ In-loop = λ Inv μ. Lts.In-loop (Reads''.Asked, Reads''.Learnt, Reads'4.Asked, 
 abbrev pub After-loop : (Inv : InvT-loop) → (μ : MeasureT-loop) → Type 0
 After-loop = λ Inv μ. Lts.After-loop (Reads''.Asked, Reads''.Learnt, Reads'4.Asked, Reads'4.Learnt, Reads.Asked, Reads.Learnt, Reads'3.Asked, Reads'3.Learnt, Reads'.Asked, Reads'.Learnt) Reads'5.Pre Reads'5.Post Inv μ
 
+abbrev pub After-list : (Inv : InvT-loop) → (μ : MeasureT-loop) → Type 0
+After-list = λ Inv μ. Lts.After-list (Reads''.Asked, Reads''.Learnt, Reads'4.Asked, Reads'4.Learnt, Reads.Asked, Reads.Learnt, Reads'3.Asked, Reads'3.Learnt, Reads'.Asked, Reads'.Learnt) Reads'5.Pre Reads'5.Post Inv μ
+
+abbrev pub After-stored : (Inv : InvT-loop) → (μ : MeasureT-loop) → Type 0
+After-stored = λ Inv μ. Lts.After-stored (Reads''.Asked, Reads''.Learnt, Reads'4.Asked, Reads'4.Learnt, Reads.Asked, Reads.Learnt, Reads'3.Asked, Reads'3.Learnt, Reads'.Asked, Reads'.Learnt) Reads'5.Pre Reads'5.Post Inv μ
+
 abbrev pub After-litres : (Inv : InvT-loop) → (μ : MeasureT-loop) → Type 0
 After-litres = λ Inv μ. Lts.After-litres (Reads''.Asked, Reads''.Learnt, Reads'4.Asked, Reads'4.Learnt, Reads.Asked, Reads.Learnt, Reads'3.Asked, Reads'3.Learnt, Reads'.Asked, Reads'.Learnt) Reads'5.Pre Reads'5.Post Inv μ
 
@@ -83,6 +89,12 @@ After-parts-at = λ Inv μ. Lts.After-parts-at (Reads''.Asked, Reads''.Learnt, R
 
 abbrev pub After-add-all-arg : (Inv : InvT-loop) → (μ : MeasureT-loop) → Type 0
 After-add-all-arg = λ Inv μ. Lts.After-add-all-arg (Reads''.Asked, Reads''.Learnt, Reads'4.Asked, Reads'4.Learnt, Reads.Asked, Reads.Learnt, Reads'3.Asked, Reads'3.Learnt, Reads'.Asked, Reads'.Learnt) Reads'5.Pre Reads'5.Post Inv μ
+
+abbrev pub After-stored2 : (Inv : InvT-loop) → (μ : MeasureT-loop) → Type 0
+After-stored2 = λ Inv μ. Lts.After-stored2 (Reads''.Asked, Reads''.Learnt, Reads'4.Asked, Reads'4.Learnt, Reads.Asked, Reads.Learnt, Reads'3.Asked, Reads'3.Learnt, Reads'.Asked, Reads'.Learnt) Reads'5.Pre Reads'5.Post Inv μ
+
+abbrev pub After-list2 : (Inv : InvT-loop) → (μ : MeasureT-loop) → Type 0
+After-list2 = λ Inv μ. Lts.After-list2 (Reads''.Asked, Reads''.Learnt, Reads'4.Asked, Reads'4.Learnt, Reads.Asked, Reads.Learnt, Reads'3.Asked, Reads'3.Learnt, Reads'.Asked, Reads'.Learnt) Reads'5.Pre Reads'5.Post Inv μ
 
 abbrev pub After-add-all : (Inv : InvT-loop) → (μ : MeasureT-loop) → Type 0
 After-add-all = λ Inv μ. Lts.After-add-all (Reads''.Asked, Reads''.Learnt, Reads'4.Asked, Reads'4.Learnt, Reads.Asked, Reads.Learnt, Reads'3.Asked, Reads'3.Learnt, Reads'.Asked, Reads'.Learnt) Reads'5.Pre Reads'5.Post Inv μ
@@ -108,8 +120,17 @@ Need-clear-requires = λ Inv μ. Lts.Need-clear-requires (Reads''.Asked, Reads''
 abbrev pub Need-loop-holds : (Inv : InvT-loop) → (μ : MeasureT-loop) → Type 0
 Need-loop-holds = λ Inv μ. Lts.Need-loop-holds (Reads''.Asked, Reads''.Learnt, Reads'4.Asked, Reads'4.Learnt, Reads.Asked, Reads.Learnt, Reads'3.Asked, Reads'3.Learnt, Reads'.Asked, Reads'.Learnt) Reads'5.Pre Reads'5.Post Inv μ
 
+abbrev pub Need-slice-aggregate-parts-at : (Inv : InvT-loop) → (μ : MeasureT-loop) → Type 0
+Need-slice-aggregate-parts-at = λ Inv μ. Lts.Need-slice-aggregate-parts-at (Reads''.Asked, Reads''.Learnt, Reads'4.Asked, Reads'4.Learnt, Reads.Asked, Reads.Learnt, Reads'3.Asked, Reads'3.Learnt, Reads'.Asked, Reads'.Learnt) Reads'5.Pre Reads'5.Post Inv μ
+
 abbrev pub Need-parts-at-requires : (Inv : InvT-loop) → (μ : MeasureT-loop) → Type 0
 Need-parts-at-requires = λ Inv μ. Lts.Need-parts-at-requires (Reads''.Asked, Reads''.Learnt, Reads'4.Asked, Reads'4.Learnt, Reads.Asked, Reads.Learnt, Reads'3.Asked, Reads'3.Learnt, Reads'.Asked, Reads'.Learnt) Reads'5.Pre Reads'5.Post Inv μ
+
+abbrev pub Need-slice-aggregate-add-all : (Inv : InvT-loop) → (μ : MeasureT-loop) → Type 0
+Need-slice-aggregate-add-all = λ Inv μ. Lts.Need-slice-aggregate-add-all (Reads''.Asked, Reads''.Learnt, Reads'4.Asked, Reads'4.Learnt, Reads.Asked, Reads.Learnt, Reads'3.Asked, Reads'3.Learnt, Reads'.Asked, Reads'.Learnt) Reads'5.Pre Reads'5.Post Inv μ
+
+abbrev pub Need-slice-aggregate-add-all-2 : (Inv : InvT-loop) → (μ : MeasureT-loop) → Type 0
+Need-slice-aggregate-add-all-2 = λ Inv μ. Lts.Need-slice-aggregate-add-all-2 (Reads''.Asked, Reads''.Learnt, Reads'4.Asked, Reads'4.Learnt, Reads.Asked, Reads.Learnt, Reads'3.Asked, Reads'3.Learnt, Reads'.Asked, Reads'.Learnt) Reads'5.Pre Reads'5.Post Inv μ
 
 abbrev pub Need-add-all-requires : (Inv : InvT-loop) → (μ : MeasureT-loop) → Type 0
 Need-add-all-requires = λ Inv μ. Lts.Need-add-all-requires (Reads''.Asked, Reads''.Learnt, Reads'4.Asked, Reads'4.Learnt, Reads.Asked, Reads.Learnt, Reads'3.Asked, Reads'3.Learnt, Reads'.Asked, Reads'.Learnt) Reads'5.Pre Reads'5.Post Inv μ
@@ -133,8 +154,8 @@ abbrev pub Need-returns : (Inv : InvT-loop) → (μ : MeasureT-loop) → Type 0
 Need-returns = λ Inv μ. Lts.Need-returns (Reads''.Asked, Reads''.Learnt, Reads'4.Asked, Reads'4.Learnt, Reads.Asked, Reads.Learnt, Reads'3.Asked, Reads'3.Learnt, Reads'.Asked, Reads'.Learnt) Reads'5.Pre Reads'5.Post Inv μ
 
 module _ {M : Type 1} where
-  pub spec : (Inv : InvT-loop) → (μ : MeasureT-loop) → (answer : Need-header-requires Inv μ) → (answer : Need-mul-at Inv μ) → (answer : Need-add-at Inv μ) → (answer : Need-clear-requires Inv μ) → (answer : Need-loop-holds Inv μ) → (answer : Need-parts-at-requires Inv μ) → (answer : Need-add-all-requires Inv μ) → (answer : Need-after-point-requires Inv μ) → (answer : Need-sub-left Inv μ) → (answer : Need-loop-less Inv μ) → (answer : Need-loop-again Inv μ) → (answer : Need-same-length Inv μ) → (answer : Need-returns Inv μ) → Lts.Closed (Reads''.Asked, Reads''.Learnt, Reads'4.Asked, Reads'4.Learnt, Reads.Asked, Reads.Learnt, Reads'3.Asked, Reads'3.Learnt, Reads'.Asked, Reads'.Learnt) Reads'5.Pre Reads'5.Post M
-  spec = λ Inv μ answer answer' answer'' answer'3 answer'4 answer'5 answer'6 answer'7 answer'8 answer'9 answer'10 answer'11 answer'12. Lts.spec (Reads''.Asked, Reads''.Learnt, Reads'4.Asked, Reads'4.Learnt, Reads.Asked, Reads.Learnt, Reads'3.Asked, Reads'3.Learnt, Reads'.Asked, Reads'.Learnt) Reads'5.Pre Reads'5.Post Inv μ answer answer' answer'' answer'3 answer'4 answer'5 answer'6 answer'7 answer'8 answer'9 answer'10 answer'11 answer'12
+  pub spec : (Inv : InvT-loop) → (μ : MeasureT-loop) → (answer : Need-header-requires Inv μ) → (answer : Need-mul-at Inv μ) → (answer : Need-add-at Inv μ) → (answer : Need-clear-requires Inv μ) → (answer : Need-loop-holds Inv μ) → (answer : Need-slice-aggregate-parts-at Inv μ) → (answer : Need-parts-at-requires Inv μ) → (answer : Need-slice-aggregate-add-all Inv μ) → (answer : Need-slice-aggregate-add-all-2 Inv μ) → (answer : Need-add-all-requires Inv μ) → (answer : Need-after-point-requires Inv μ) → (answer : Need-sub-left Inv μ) → (answer : Need-loop-less Inv μ) → (answer : Need-loop-again Inv μ) → (answer : Need-same-length Inv μ) → (answer : Need-returns Inv μ) → Lts.Closed (Reads''.Asked, Reads''.Learnt, Reads'4.Asked, Reads'4.Learnt, Reads.Asked, Reads.Learnt, Reads'3.Asked, Reads'3.Learnt, Reads'.Asked, Reads'.Learnt) Reads'5.Pre Reads'5.Post M
+  spec = λ Inv μ answer answer' answer'' answer'3 answer'4 answer'5 answer'6 answer'7 answer'8 answer'9 answer'10 answer'11 answer'12 answer'13 answer'14 answer'15. Lts.spec (Reads''.Asked, Reads''.Learnt, Reads'4.Asked, Reads'4.Learnt, Reads.Asked, Reads.Learnt, Reads'3.Asked, Reads'3.Learnt, Reads'.Asked, Reads'.Learnt) Reads'5.Pre Reads'5.Post Inv μ answer answer' answer'' answer'3 answer'4 answer'5 answer'6 answer'7 answer'8 answer'9 answer'10 answer'11 answer'12 answer'13 answer'14 answer'15
 
   -- antt refused `close` as it was built: the module's report says why
   pub close : Lts.Closed (Reads''.Asked, Reads''.Learnt, Reads'4.Asked, Reads'4.Learnt, Reads.Asked, Reads.Learnt, Reads'3.Asked, Reads'3.Learnt, Reads'.Asked, Reads'.Learnt) Reads'5.Pre Reads'5.Post M → Statement.statement M
