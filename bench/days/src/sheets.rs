@@ -56,27 +56,51 @@ impl Sheets {
     pub fn fill(&mut self, year: &Year, meters: u64, cursor: &mut Cursor, from: u64, to: u64) {
         (self.from, self.count) = (from, ((to - from) as usize).min(366));
         self.metered = meters > 0;
-        if self.metered {
-            self.litres[..self.count].fill(0);
+        if !self.metered {
+            return;
         }
-        for place in 0..meters {
-            self.add_meter(year, cursor, place == 0);
+        self.litres[..self.count].fill(0);
+        let (mut every, mut fresh) = ([0; 3], true);
+        for _ in 0..meters {
+            self.add_meter(year, cursor, &mut every, &mut fresh);
+        }
+        for (sheet, figure) in self.of_figures().into_iter().zip(every) {
+            if fresh {
+                sheet.fill(figure);
+            } else {
+                add(sheet, figure);
+            }
         }
     }
 
-    /// A meter's litres, and its band's figures on its meter days. Those of the
-    /// first meter are set and not added, so that nothing is cleared for them.
+    /// The sheets of annual charge, allowance and threshold.
     #[inline(always)]
-    fn add_meter(&mut self, year: &Year, cursor: &mut Cursor, first: bool) {
+    fn of_figures(&mut self) -> [&mut [u64]; 3] {
+        let sheets = [&mut self.annual, &mut self.allowance, &mut self.threshold];
+        sheets.map(|sheet| &mut sheet[..self.count])
+    }
+
+    /// A meter's litres, and its band's figures on its meter days. Those of a
+    /// meter that is there on all days are summed by themselves. Of the others
+    /// the first one's are set and not added, so that nothing is cleared.
+    #[inline(always)]
+    fn add_meter(&mut self, year: &Year, cursor: &mut Cursor, every: &mut [u64; 3], fresh: &mut bool) {
         let meter = cursor.meter();
         let days = self.entry(meter.installed)..self.entry(meter.removed);
-        let sheets = [&mut self.annual, &mut self.allowance, &mut self.threshold];
-        for (sheet, figure) in sheets.into_iter().zip(figures(year, &meter)) {
-            if first {
-                set(&mut sheet[..self.count], days.clone(), figure);
-            } else if meter.size != 0 {
-                add(sheet, days.clone(), figure);
+        let figures = figures(year, &meter);
+        if days.len() == self.count {
+            for (sum, figure) in every.iter_mut().zip(figures) {
+                *sum += figure;
             }
+        } else {
+            for (sheet, figure) in self.of_figures().into_iter().zip(figures) {
+                if *fresh {
+                    set(sheet, days.clone(), figure);
+                } else {
+                    add(&mut sheet[days.clone()], figure);
+                }
+            }
+            *fresh = false;
         }
         self.add_reads(&meter, cursor);
     }
@@ -153,6 +177,6 @@ fn set(sheet: &mut [u64], days: Range<usize>, figure: u64) {
 
 /// The figure is added on some days.
 #[inline(always)]
-fn add(sheet: &mut [u64], days: Range<usize>, figure: u64) {
-    sheet[days].iter_mut().for_each(|sum| *sum += figure);
+fn add(sheet: &mut [u64], figure: u64) {
+    sheet.iter_mut().for_each(|sum| *sum += figure);
 }
