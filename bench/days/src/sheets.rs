@@ -84,7 +84,13 @@ impl Sheets {
     /// meter that is there on all days are summed by themselves. Of the others
     /// the first one's are set and not added, so that nothing is cleared.
     #[inline(always)]
-    fn add_meter(&mut self, year: &Year, cursor: &mut Cursor, every: &mut [u64; 3], fresh: &mut bool) {
+    fn add_meter(
+        &mut self,
+        year: &Year,
+        cursor: &mut Cursor,
+        every: &mut [u64; 3],
+        fresh: &mut bool,
+    ) {
         let meter = cursor.meter();
         let days = self.entry(meter.installed)..self.entry(meter.removed);
         let figures = figures(year, &meter);
@@ -96,7 +102,7 @@ impl Sheets {
             for (sheet, figure) in self.of_figures().into_iter().zip(figures) {
                 if *fresh {
                     set(sheet, days.clone(), figure);
-                } else {
+                } else if meter.size != 0 {
                     add(&mut sheet[days.clone()], figure);
                 }
             }
