@@ -6,14 +6,14 @@ use mathlib.Core.List.{List, [], _∷_}
 use native.Mathlib.Nat.{le-refl, mul-le-mul, mul-le-mul-left, mul-comm, mul-right-comm, mul-zero, zero-div, div-le-of-le-mul, mul-div-mul-right}
 use native.Mathlib.Decide.{decLt}
 use native.Mathlib.Omega.{arith}
-use borrow.Author.Tests.{ltb-true, leb-true, eqb-true, le-leb, lt-leb, lt-ltb, le-ltb}
+use borrow.Author.Tests.{ltb-true, leb-true, eqb-true, eq-eqb, ne-eqb, le-leb, lt-leb, lt-ltb, le-ltb}
 use lib.Dec.{ltb, leb, eqb}
 use lib.ListN.{length, getD, set, length-replicate, getD-replicate, length-map}
 use lib.Seq.{ext-getD}
 use Rattle.rules.specs.Sums.{only}
 use Rattle.rules.specs.Litres.{carriedBefore}
 use Rattle.rules.proofs.Shares.{div-mono}
-use Rattle.sheet.specs.Sheets.{Written, Filled, Grown, Room, counted, raised, RoomBetween, OnAllDays}
+use Rattle.sheet.specs.Sheets.{Written, Filled, Grown, Room, counted, raised, RoomBetween, onAllDays}
 use Rattle.sheet.specs.Meters.{during, carried, spread, Spreadable}
 use Rattle.sheet.proofs.Laws.{written-none, written-more}
 
@@ -190,23 +190,36 @@ both-true : (s t : Bool) → (s && t) ≡ true → (s ≡ true) × (t ≡ true)
 both-true true t e = (refl, e)
 both-true false t e = absurd (let z : _≡_ {A = ℕ} 0 1 = cc in omega arith)
 
-pub all-days : {n start first last end : ℕ} → end ≡ min (last - start) n → (ltb 0 n && leb first start && eqb end n) ≡ true → OnAllDays n start first last
-all-days {n} {start} {first} {end = end} q e =
-    let outer = both-true (ltb 0 n && leb first start) (eqb end n) e in
+pub all-days : (n start first last : ℕ) {end : ℕ} → end ≡ min (last - start) n → (ltb 0 n && leb first start && eqb end n) ≡ onAllDays n start first last
+unfolding onAllDays
+all-days zero start first last q = refl
+all-days (suc n) start first last {end} q = ap (λ t. ltb 0 (suc n) && leb first start && t) (elim (decLt last (start + suc n)) [
+  | yes l ↦ ne-eqb end (suc n) (λ e. absurd (omega arith)) ∙ sym (lt-leb (start + suc n) last l)
+  | no l ↦ eq-eqb end (suc n) (omega arith) ∙ sym (le-leb (start + suc n) last (omega arith))
+])
+
+-- what it says where it holds
+pub record OnAllDays (entries start first last : ℕ) : Type 0 where
+  pub some : 0 < entries
+  pub begun : first ≤ start
+  pub lasts : start + entries ≤ last
+
+on-days : {n start first last : ℕ} → onAllDays n start first last ≡ true → OnAllDays n start first last
+unfolding onAllDays
+on-days {n} {start} {first} {last} e =
+    let outer = both-true (ltb 0 n && leb first start) (leb (start + n) last) e in
     let inner = both-true (ltb 0 n) (leb first start) (outer .0) in
-    let some = ltb-true 0 n (inner .0) in
-    let whole = eqb-true end n (outer .1) in
-    record { some = some; begun = leb-true first start (inner .1); lasts = omega arith }
+    record { some = ltb-true 0 n (inner .0); begun = leb-true first start (inner .1); lasts = leb-true (start + n) last (outer .1) }
 
 -- of three sheets that are as long
 abbrev pub AllAlike : ℕ → ℕ → ℕ → ℕ → ℕ → ℕ → Type 0
 AllAlike n a t start first last = OnAllDays n start first last × OnAllDays a start first last × OnAllDays t start first last
 
-pub all-alike : {n a t start first last : ℕ} {days : Bool} → (eqb a n && eqb t n && days) ≡ true → (days ≡ true → OnAllDays n start first last) → AllAlike n a t start first last
+pub all-alike : {n a t start first last : ℕ} {days : Bool} → (eqb a n && eqb t n && days) ≡ true → days ≡ onAllDays n start first last → AllAlike n a t start first last
 all-alike {n} {a} {t} {start} {first} {last} {days} e h =
     let outer = both-true (eqb a n && eqb t n) days e in
     let inner = both-true (eqb a n) (eqb t n) (outer .0) in
-    let o = h (outer .1) in
+    let o = on-days (sym h ∙ outer .1) in
     let as-long : (k : ℕ) → k ≡ n → OnAllDays k start first last = λ k q. subst (λ k. OnAllDays k start first last) (sym q) o in
     (o, as-long a (eqb-true a n (inner .0)), as-long t (eqb-true t n (inner .1)))
 

@@ -8,7 +8,7 @@ entry-requires : tie.Need-entry-requires
 entry-requires c κs = search needs
 
 returns : tie.Need-returns
-returns c = λ e. all-days (c .entry .ensures) e
+returns c = let a = c .before .args in all-days (a .entries) (a .start) (a .first) (a .last) (c .entry .ensures)
 
 pub on-all-days-spec : {M : Type 1} → statement M
 on-all-days-spec = tie.close (tie.spec entry-requires returns)
