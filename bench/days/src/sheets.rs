@@ -14,7 +14,11 @@ pub struct Sheets {
     /// Without a meter no sheet is filled, and none is summed.
     metered: bool,
     litres: Sheet,
-    /// Annual charge, allowance and threshold × share, of all meters.
+    /// Annual charge, allowance and threshold × share: what every day has, of
+    /// the meters that are there on all days, and what stands on the sheets, of
+    /// the others. Where these are fresh, nothing on them counts.
+    every: [u64; 3],
+    fresh: bool,
     annual: Sheet,
     allowance: Sheet,
     threshold: Sheet,
@@ -37,6 +41,8 @@ impl Sheets {
             count: 0,
             metered: false,
             litres: [0; 366],
+            every: [0; 3],
+            fresh: true,
             annual: [0; 366],
             allowance: [0; 366],
             threshold: [0; 366],
@@ -60,16 +66,9 @@ impl Sheets {
             return;
         }
         self.litres[..self.count].fill(0);
-        let (mut every, mut fresh) = ([0; 3], true);
+        (self.every, self.fresh) = ([0; 3], true);
         for _ in 0..meters {
-            self.add_meter(year, cursor, &mut every, &mut fresh);
-        }
-        for (sheet, figure) in self.of_figures().into_iter().zip(every) {
-            if fresh {
-                sheet.fill(figure);
-            } else {
-                add(sheet, figure);
-            }
+            self.add_meter(year, cursor);
         }
     }
 
@@ -84,29 +83,24 @@ impl Sheets {
     /// meter that is there on all days are summed by themselves. Of the others
     /// the first one's are set and not added, so that nothing is cleared.
     #[inline(always)]
-    fn add_meter(
-        &mut self,
-        year: &Year,
-        cursor: &mut Cursor,
-        every: &mut [u64; 3],
-        fresh: &mut bool,
-    ) {
+    fn add_meter(&mut self, year: &Year, cursor: &mut Cursor) {
         let meter = cursor.meter();
         let days = self.entry(meter.installed)..self.entry(meter.removed);
         let figures = figures(year, &meter);
         if days.len() == self.count {
-            for (sum, figure) in every.iter_mut().zip(figures) {
+            for (sum, figure) in self.every.iter_mut().zip(figures) {
                 *sum += figure;
             }
         } else {
+            let fresh = self.fresh;
             for (sheet, figure) in self.of_figures().into_iter().zip(figures) {
-                if *fresh {
+                if fresh {
                     set(sheet, days.clone(), figure);
                 } else if meter.size != 0 {
                     add(&mut sheet[days.clone()], figure);
                 }
             }
-            *fresh = false;
+            self.fresh = false;
         }
         self.add_reads(&meter, cursor);
     }
@@ -150,7 +144,16 @@ impl Sheets {
         if !self.metered {
             return sums;
         }
-        let (litres, annual) = (&self.litres[days.clone()], &self.annual[days.clone()]);
+        let count = days.len() as u64;
+        sums.annual = self.every[0] * count;
+        sums.allowance = self.every[1] * count;
+        sums.threshold = self.every[2] * count;
+        let litres = &self.litres[days.clone()];
+        if self.fresh {
+            sums.litres = litres.iter().sum();
+            return sums;
+        }
+        let annual = &self.annual[days.clone()];
         let (allowance, threshold) = (&self.allowance[days.clone()], &self.threshold[days.clone()]);
         for day in 0..days.len() {
             sums.litres += litres[day];

@@ -68,8 +68,11 @@ higher-then n h =
           ∙ ap (λ (l : List ℕ). l ++ ((48 + n / 10 % 10) ∷ [])) (ap decimal {x = n / 10 / 10} {y = n / 100} (omega arith) ∙ sym (higher-some n (omega arith)))
     ]
 
-pub decimal-pair : (n : ℕ) → 10 ≤ n → decimal n ≡ higher n ++ ((48 + n / 10 % 10) ∷ (48 + n % 10) ∷ [])
-decimal-pair n h = decimal-more n h ∙ ap (λ (l : List ℕ). l ++ ((48 + n % 10) ∷ [])) (higher-then n h) ∙ append-assoc (higher n) _ _
+pub decimal-pair : (n : ℕ) → 10 ≤ n → decimal n ≡ higher n ++ ((48 + n % 100 / 10) ∷ (48 + n % 100 % 10) ∷ [])
+decimal-pair n h =
+    let tens : n % 100 / 10 ≡ n / 10 % 10 = omega arith in
+    let ones : n % 100 % 10 ≡ n % 10 = omega arith in
+    rw (tens, ones) (decimal-more n h ∙ ap (λ (l : List ℕ). l ++ ((48 + n % 10) ∷ [])) (higher-then n h) ∙ append-assoc (higher n) _ _)
 
 pub length-one : (n : ℕ) → n < 10 → length (decimal n) ≡ 1
 length-one n h = ap length (decimal-one n h)

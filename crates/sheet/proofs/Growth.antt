@@ -9,11 +9,10 @@ use native.Mathlib.Omega.{arith}
 use borrow.Author.Tests.{ltb-true, leb-true, eqb-true, eq-eqb, ne-eqb, le-leb, lt-leb, lt-ltb, le-ltb}
 use lib.Dec.{ltb, leb, eqb}
 use lib.ListN.{length, getD, set, length-replicate, getD-replicate, length-map}
-use lib.Seq.{ext-getD}
 use Rattle.rules.specs.Sums.{only}
 use Rattle.rules.specs.Litres.{carriedBefore}
 use Rattle.rules.proofs.Shares.{div-mono}
-use Rattle.sheet.specs.Sheets.{Written, Filled, Grown, Room, counted, raised, RoomBetween, onAllDays}
+use Rattle.sheet.specs.Sheets.{Written, Filled, Grown, Room, counted, raised, stands, RoomBetween, onAllDays}
 use Rattle.sheet.specs.Meters.{during, carried, spread, Spreadable}
 use Rattle.sheet.proofs.Laws.{written-none, written-more}
 
@@ -122,7 +121,7 @@ module _ {l : List ℕ} {start lo t : ℕ} (first last x : ℕ) (low : lo ≡ mi
       }
 
 -- FRESH SHEETS, of which nothing counts
-counted-none : (l : List ℕ) → Filled l (counted true l) 0 (λ d. 0)
+pub counted-none : (l : List ℕ) → Filled l (counted true l) 0 (λ d. 0)
 counted-none l = record { long = length-replicate (length l) 0; each = λ i h. getD-replicate (length l) i 0 0 h }
 
 pub set-grown : {l a : List ℕ} {start : ℕ} {f : ℕ → ℕ} → Filled l a start f → Grown (counted true l) a start f
@@ -136,10 +135,10 @@ counted-long false l = refl
 
 -- A SHEET WITH x MORE ON EVERY DAY
 module _ (x : ℕ) where
-  raised-long : (l : List ℕ) → length (raised x l) ≡ length l
+  pub raised-long : (l : List ℕ) → length (raised x l) ≡ length l
   raised-long l = length-map l (λ y. y + x)
 
-  raised-each : (l : List ℕ) (i : ℕ) → i < length l → getD (raised x l) i 0 ≡ getD l i 0 + x
+  pub raised-each : (l : List ℕ) (i : ℕ) → i < length l → getD (raised x l) i 0 ≡ getD l i 0 + x
   raised-each [] i h = absurd (omega arith)
   raised-each (y ∷ l) zero h = refl
   raised-each (y ∷ l) (suc i) h = raised-each l i (omega arith)
@@ -148,12 +147,9 @@ module _ (x : ℕ) where
     raised-fits : Room (raised x l) start f → (i : ℕ) → i < length l → getD l i 0 + x + f (start + i) < 2 ^ 64
     raised-fits r i h = omega (arith, raised-each l i h, r .fits i (omega (arith, raised-long l)))
 
-    -- there is room on the sheet as it stands, and for x on every day
+    -- there is room on the sheet as it stands
     pub raised-room : Room (raised x l) start f → Room l start f
     raised-room r = record { fits = λ i h. omega (arith, raised-fits r i h) }
-
-    pub raise-room : Room (raised x l) start f → Room l 0 (λ d. x)
-    raise-room r = record { fits = λ i h. omega (arith, raised-fits r i h) }
 
     pub raised-grown : {a : List ℕ} → Grown l a start f → Grown (raised x l) (raised x a) start f
     raised-grown {a} g =
@@ -164,9 +160,8 @@ module _ (x : ℕ) where
               omega (arith, g .each i k, raised-each l i k, raised-each a i (omega (arith, g .long)));
         }
 
-  pub grown-raised : {l a : List ℕ} → Grown l a 0 (λ d. x) → a ≡ raised x l
-  grown-raised {l} {a} g =
-      ext-getD 0 a (raised x l) (g .long ∙ sym (raised-long l)) (λ i h. let k : i < length l = omega (arith, g .long) in g .each i k ∙ sym (raised-each l i k))
+pub stands-long : (x : ℕ) (fresh : Bool) (l : List ℕ) → length (stands x fresh l) ≡ length l
+stands-long x fresh l = raised-long x (counted fresh l) ∙ counted-long fresh l
 
 -- a fresh sheet with nothing more
 pub raised-none : (l : List ℕ) → Filled l (raised 0 (counted true l)) 0 (λ d. 0)
@@ -176,14 +171,6 @@ raised-none l =
       long = raised-long 0 (counted true l) ∙ none .long;
       each = λ i h. omega (arith, raised-each 0 (counted true l) i (omega (arith, none .long)), none .each i h);
     }
-
--- what is added to every entry
-module _ {l : List ℕ} (x : ℕ) where
-  pub all-between : Room l 0 (λ d. x) → RoomBetween l x 0 (length l)
-  all-between r = record { within = le-refl (length l); fits = λ i h k. r .fits i k }
-
-  pub all-added : {a : List ℕ} → Written l a (λ i. getD l i 0 + x) 0 (length l) → Grown l a 0 (λ d. x)
-  all-added u = record { long = u .long; each = λ i k. u .inside i zero-le k }
 
 -- DAYS THAT ARE ALL THE DAYS OF A SHEET
 both-true : (s t : Bool) → (s && t) ≡ true → (s ≡ true) × (t ≡ true)

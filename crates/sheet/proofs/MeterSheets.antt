@@ -228,7 +228,3 @@ module _ {l a : MeterSheet → List ℕ} {start : ℕ} {bs : List Band} {all : L
   pub meters-turn : {b : MeterSheet → List ℕ} → MeterAdded a b start bs m → MetersLeft l b start bs all left
   unfolding over
   meters-turn g = record { good = u .good .1; room = u .room; rest = λ s. rest-more (u .rest s) (g s) (λ d. refl) }
-
--- what the sheets have fits
-pub meters-fit : {l a : MeterSheet → List ℕ} {start : ℕ} {bs : List Band} {all left : List Meter} → MetersLeft l a start bs all left → (s : MeterSheet) → Room (a s) start (λ d. 0)
-meters-fit u s = rest-room (u .rest s) (u .room s) (λ d. zero-le)

@@ -14,7 +14,7 @@ use Rattle.rules.specs.Litres.{carriedBefore, meterLitres}
 use Rattle.rules.specs.Charges.{bandFor}
 use Rattle.rules.specs.Good.{GoodBand, GoodMeter}
 use Rattle.sheet.specs.declared.Figures.{Figures}
-use Rattle.sheet.specs.Sheets.{Filled, Grown, Room, counted, raised}
+use Rattle.sheet.specs.Sheets.{Filled, Grown, Room, stands}
 
 -- x on the days from `first` on, before `last`
 unfoldable pub during : ℕ → ℕ → ℕ → ℕ → ℕ
@@ -83,10 +83,11 @@ four litres annual allowance threshold annualSheet = annual
 four litres annual allowance threshold allowanceSheet = allowance
 four litres annual allowance threshold thresholdSheet = threshold
 
--- the four, where `every` is still to be put on all days; of the figures nothing counts where the sheets are fresh
+-- the four that stand for what each day has, where it has `every` besides what stands in the sheets of the figures; of that nothing counts where
+-- they are fresh
 abbrev pub standing : Figures → Bool → List ℕ → List ℕ → List ℕ → List ℕ → MeterSheet → List ℕ
 standing every fresh litres annual allowance threshold =
-    four litres (raised (every .annual) (counted fresh annual)) (raised (every .allowance) (counted fresh allowance)) (raised (every .threshold) (counted fresh threshold))
+    four litres (stands (every .annual) fresh annual) (stands (every .allowance) fresh allowance) (stands (every .threshold) fresh threshold)
 
 -- room for a meter, and the sheets after it
 abbrev pub MeterRoom : (MeterSheet → List ℕ) → ℕ → List Band → Meter → Type 0

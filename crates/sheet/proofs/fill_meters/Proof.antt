@@ -1,16 +1,14 @@
 -- `sheet::fill_meters` meets its contract: what the sheets and the sums have, and what the meters that are left are to add, are the point's figures. Assumes nothing.
-use mathlib.Core.Path.{refl, ap, _∙_}
+use mathlib.Core.Path.{refl, sym, _∙_}
 use mathlib.Core.Bool.{true}
 use native.Mathlib.Omega.{arith}
 use denote.Ref.{now}
-use lib.ListN.{length}
 use Rattle.rules.specs.File.{bands as bandsFrom, meterAt, afterMeter, meters, afterMeters}
 use Rattle.records.proofs.Positions.{length-records, meter-forward}
-use Rattle.sheet.specs.Sheets.{counted}
 use Rattle.sheet.specs.Meters.{litresSheet, annualSheet, allowanceSheet, thresholdSheet, standing}
 use Rattle.records.proofs.Ahead.{Ahead, ahead-past, ahead-one, ahead-turn, ahead-done}
-use Rattle.sheet.proofs.Growth.{raised-none, raise-room}
-use Rattle.sheet.proofs.MeterSheets.{MetersLeft, nothing, cleared, meters-begin, meters-room, meters-turn, meters-fit, meters-end}
+use Rattle.sheet.proofs.Growth.{stands-long}
+use Rattle.sheet.proofs.MeterSheets.{MetersLeft, nothing, cleared, meters-begin, meters-room, meters-turn, meters-end}
 use borrow.Author.Needs.{needs}
 use Rattle.sheet.proofs.fill_meters.Statement.{statement}
 use Rattle.sheet.proofs.fill_meters.Tie as tie
@@ -39,29 +37,20 @@ loop-less c = search needs
 loop-again : tie.Need-loop-again Inv-loop μ-loop
 loop-again c = ahead-turn (c .before .before .before .before .before .before .before .before .before .before .before .before .before .before .before .before .loop .inv) (c .before .before .before .before .before .before .before .before .before .before .before .before .before .before .before .loop-test .taken) (refl, c .before .before .before .before .before .before .before .before .before .before .add-meter .ensures .0) (λ ms u. meters-turn _ ms u (c .before .before .before .before .before .before .before .before .before .before .add-meter .ensures .1))
 
-put-on-all-requires : tie.Need-put-on-all-requires Inv-loop μ-loop
-put-on-all-requires c κs = let l = c .before .before .loop in raise-room (l .every .annual) (counted (l .fresh) (l .annual)) (meters-fit (l .inv .holds) annualSheet)
-
-put-on-all-requires-2 : tie.Need-put-on-all-requires-2 Inv-loop μ-loop
-put-on-all-requires-2 c κs = let l = c .before .before .before .before .before .before .loop in raise-room (l .every .allowance) (counted (l .fresh) (l .allowance)) (meters-fit (l .inv .holds) allowanceSheet)
-
-put-on-all-requires-3 : tie.Need-put-on-all-requires-3 Inv-loop μ-loop
-put-on-all-requires-3 c κs = let l = c .before .before .before .before .before .before .before .before .before .before .loop in raise-room (l .every .threshold) (counted (l .fresh) (l .threshold)) (meters-fit (l .inv .holds) thresholdSheet)
-
 same-length : tie.Need-same-length Inv-loop μ-loop
-same-length c = c .before .before .before .before .before .before .before .before .before .before .before .before .before .loop .inv .holds .rest litresSheet .long ∙ c .before .before .before .before .before .before .before .before .before .before .before .before .before .before .before .before .clear .ensures .long
+same-length c = c .before .loop .inv .holds .rest litresSheet .long ∙ c .before .before .before .before .clear .ensures .long
 
 same-length-2 : tie.Need-same-length-2 Inv-loop μ-loop
-same-length-2 c = ap length (c .before .before .before .before .before .before .before .before .before .before .put-on-all .ensures) ∙ c .before .before .before .before .before .before .before .before .before .before .before .before .before .loop .inv .holds .rest annualSheet .long ∙ raised-none (now (c .before .before .before .before .before .before .before .before .before .before .before .before .before .before .before .before .before .before .before .before .before .before .before .args .annual)) .long
+same-length-2 c = let l = c .before .loop in sym (stands-long (l .every .annual) (l .fresh) (l .annual)) ∙ l .inv .holds .rest annualSheet .long ∙ stands-long 0 true (now (c .before .before .before .before .before .before .before .before .before .before .before .args .annual))
 
 same-length-3 : tie.Need-same-length-3 Inv-loop μ-loop
-same-length-3 c = ap length (c .before .before .before .before .before .before .put-on-all2 .ensures) ∙ c .before .before .before .before .before .before .before .before .before .before .before .before .before .loop .inv .holds .rest allowanceSheet .long ∙ raised-none (now (c .before .before .before .before .before .before .before .before .before .before .before .before .before .before .before .before .before .before .before .before .before .before .before .args .allowance)) .long
+same-length-3 c = let l = c .before .loop in sym (stands-long (l .every .allowance) (l .fresh) (l .allowance)) ∙ l .inv .holds .rest allowanceSheet .long ∙ stands-long 0 true (now (c .before .before .before .before .before .before .before .before .before .before .before .args .allowance))
 
 same-length-4 : tie.Need-same-length-4 Inv-loop μ-loop
-same-length-4 c = ap length (c .before .before .put-on-all3 .ensures) ∙ c .before .before .before .before .before .before .before .before .before .before .before .before .before .loop .inv .holds .rest thresholdSheet .long ∙ raised-none (now (c .before .before .before .before .before .before .before .before .before .before .before .before .before .before .before .before .before .before .before .before .before .before .before .args .threshold)) .long
+same-length-4 c = let l = c .before .loop in sym (stands-long (l .every .threshold) (l .fresh) (l .threshold)) ∙ l .inv .holds .rest thresholdSheet .long ∙ stands-long 0 true (now (c .before .before .before .before .before .before .before .before .before .before .before .args .threshold))
 
 returns : tie.Need-returns Inv-loop μ-loop
-returns c = let s = c .before .before .before .before .before .before .before .before .before .before .before .before .before .before .before .before .before .before .before .before .before .before .before .args in let done = ahead-done (c .before .before .before .before .before .before .before .before .before .before .before .before .before .loop .inv) (omega arith) in (done .0, rw (c .before .before .before .before .before .before .before .before .before .before .put-on-all .ensures, c .before .before .before .before .before .before .put-on-all2 .ensures, c .before .before .put-on-all3 .ensures) (meters-end (cleared (now (s .annual)) (now (s .allowance)) (now (s .threshold)) (c .before .before .before .before .before .before .before .before .before .before .before .before .before .before .before .before .clear .ensures)) (done .1)))
+returns c = let s = c .before .before .before .before .before .before .before .before .before .before .before .args in let done = ahead-done (c .before .loop .inv) (omega arith) in (done .0, meters-end (cleared (now (s .annual)) (now (s .allowance)) (now (s .threshold)) (c .before .before .before .before .clear .ensures)) (done .1))
 
 pub fill-meters-spec : {M : Type 1} → statement M
 fill-meters-spec =
@@ -75,9 +64,6 @@ fill-meters-spec =
     sub-left
     loop-less
     loop-again
-    put-on-all-requires
-    put-on-all-requires-2
-    put-on-all-requires-3
     same-length
     same-length-2
     same-length-3
