@@ -1,5 +1,6 @@
 pub mod Laws
 pub mod Run
+pub mod Taken
 pub mod AddAllKinds
 pub mod AddAllReads
 pub mod AddKinds

@@ -102,6 +102,9 @@ After-add-all = λ Inv μ. Lts.After-add-all (Reads'.Asked, Reads'.Learnt, Reads
 abbrev pub After-table2 : (Inv : InvT-loop) → (μ : MeasureT-loop) → Type 0
 After-table2 = λ Inv μ. Lts.After-table2 (Reads'.Asked, Reads'.Learnt, Reads'3.Asked, Reads'3.Learnt, Reads.Asked, Reads.Learnt, Reads''.Asked, Reads''.Learnt) Reads'4.Pre Reads'4.Post Inv μ
 
+abbrev pub After-stored3 : (Inv : InvT-loop) → (μ : MeasureT-loop) → Type 0
+After-stored3 = λ Inv μ. Lts.After-stored3 (Reads'.Asked, Reads'.Learnt, Reads'3.Asked, Reads'3.Learnt, Reads.Asked, Reads.Learnt, Reads''.Asked, Reads''.Learnt) Reads'4.Pre Reads'4.Post Inv μ
+
 abbrev pub Need-header-requires : (Inv : InvT-loop) → (μ : MeasureT-loop) → Type 0
 Need-header-requires = λ Inv μ. Lts.Need-header-requires (Reads'.Asked, Reads'.Learnt, Reads'3.Asked, Reads'3.Learnt, Reads.Asked, Reads.Learnt, Reads''.Asked, Reads''.Learnt) Reads'4.Pre Reads'4.Post Inv μ
 
