@@ -11,37 +11,38 @@ use Rattle.rules.specs.Good.{FirstBy}
 use Rattle.rules.proofs.Lists.{ascending-lower, latest-none, latest-here, latest-ahead}
 use Rattle.records.proofs.Positions.{forward}
 use Rattle.records.proofs.Ahead.{read-one, read-past}
-use Rattle.providers.specs.Runs.{firstEntry, SoundTransfers}
+use Rattle.charged.specs.Charged.{firstEntry}
+use Rattle.providers.specs.Runs.{SoundTransfers}
 
 -- who has the day of entry i, from `start` on
 abbrev pub ownerBy : List Transfer → ℕ → ℕ → ℕ
 ownerBy ts start i = latest (λ t. t .day) (λ t. t .provider) 0 ts (start + i)
 
 -- A LIST of transfers
-pub first-within : (n start : ℕ) (ts : List Transfer) → firstEntry n start ts ≤ n
+pub first-within : (n start : ℕ) (ts : List Transfer) → firstEntry (λ t. t .day) n start ts ≤ n
 unfolding firstEntry
 first-within n start [] = omega arith
 first-within n start (t ∷ ts) = omega arith
 
 -- one on or before the first day
-first-zero : (n start : ℕ) (ts : List Transfer) → FirstBy start ts → firstEntry n start ts ≡ 0
+first-zero : (n start : ℕ) (ts : List Transfer) → FirstBy start ts → firstEntry (λ t. t .day) n start ts ≡ 0
 unfolding firstEntry
 first-zero n start [] h = absurd h
 first-zero n start (t ∷ ts) h = omega arith
 
 module _ (n start : ℕ) (t : Transfer) where
-  first-later : (ts : List Transfer) → Ascending 0 (map (λ t. t .day) (t ∷ ts)) → firstEntry n start (t ∷ ts) ≤ firstEntry n start ts
+  first-later : (ts : List Transfer) → Ascending 0 (map (λ t. t .day) (t ∷ ts)) → firstEntry (λ t. t .day) n start (t ∷ ts) ≤ firstEntry (λ t. t .day) n start ts
   unfolding firstEntry
   first-later [] up = omega arith
   first-later (u ∷ ts) up = omega (arith, up .1 .0)
 
-  owner-here : (ts : List Transfer) → Ascending 0 (map (λ t. t .day) (t ∷ ts)) → (i : ℕ) → firstEntry n start (t ∷ ts) ≤ i → i < firstEntry n start ts →
+  owner-here : (ts : List Transfer) → Ascending 0 (map (λ t. t .day) (t ∷ ts)) → (i : ℕ) → firstEntry (λ t. t .day) n start (t ∷ ts) ≤ i → i < firstEntry (λ t. t .day) n start ts →
       ownerBy (t ∷ ts) start i ≡ t .provider
   unfolding firstEntry
   owner-here [] up i a b = latest-here _ _ _ 0 t [] (omega arith) ∙ latest-none _ _ _ (t .provider) [] tt
   owner-here (u ∷ ts) up i a b = latest-here _ _ _ 0 t (u ∷ ts) (omega arith) ∙ latest-ahead _ _ _ (t .provider) (suc (t .day)) u ts (up .1) (omega arith)
 
-  owner-later : (ts : List Transfer) → Ascending 0 (map (λ t. t .day) (t ∷ ts)) → (i : ℕ) → firstEntry n start ts ≤ i → i < n →
+  owner-later : (ts : List Transfer) → Ascending 0 (map (λ t. t .day) (t ∷ ts)) → (i : ℕ) → firstEntry (λ t. t .day) n start ts ≤ i → i < n →
       ownerBy (t ∷ ts) start i ≡ ownerBy ts start i
   unfolding firstEntry
   owner-later [] up i a b = absurd (omega arith)
@@ -64,7 +65,7 @@ point-run point start e run =
 module _ (file : List ℕ) (start n : ℕ) where
   -- the entry of the first day that is not done
   abbrev pub reached : ℕ → ℕ → ℕ
-  reached left at = firstEntry n start (transfers file left at)
+  reached left at = firstEntry (λ t. t .day) n start (transfers file left at)
 
   pub record RunsLeft (owner : ℕ → ℕ) (left at : ℕ) : Type 0 where
     pub ascend : Ascending 0 (map (λ t. t .day) (transfers file left at))
@@ -88,11 +89,11 @@ module _ (file : List ℕ) (start n : ℕ) where
   pub run-from : (left at : ℕ) {next from : ℕ} {t : Transfer} → 0 < left → (t ≡ transferAt file at) × (next ≡ afterTransfer at) → from ≡ min (t .day - start) n →
       from ≡ reached left at
   unfolding firstEntry
-  run-from left at h e f = f ∙ sym (ap (firstEntry n start) (transfers-one left at h e))
+  run-from left at h e f = f ∙ sym (ap (firstEntry (λ t. t .day) n start) (transfers-one left at h e))
 
   pub runs-end : (left at : ℕ) → left ≤ 0 → n ≡ reached left at
   unfolding records firstEntry
-  runs-end left at h = ap (λ k. firstEntry n start (transfers file k at)) {x = 0} {y = left} (omega arith)
+  runs-end left at h = ap (λ k. firstEntry (λ t. t .day) n start (transfers file k at)) {x = 0} {y = left} (omega arith)
 
   module _ {owner : ℕ → ℕ} {left at : ℕ} (u : RunsLeft owner left at) where
     pub transfer-small : at < 2 ^ 32

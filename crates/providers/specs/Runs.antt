@@ -1,15 +1,9 @@
 -- The runs of days that a point's transfers give: a transfer's goes from its own day to the next one's.
-use Prim.Native.Nat.{ℕ, _-_, _^_, _<_, min}
-use mathlib.Core.List.{List, [], _∷_, map}
-use Rattle.rules.specs.declared.Transfer.{Transfer}
+use Prim.Native.Nat.{ℕ, _^_, _<_}
+use mathlib.Core.List.{List, map}
 use Rattle.rules.specs.Lists.{Ascending}
 use Rattle.rules.specs.File.{transfers, afterTransfers}
 use Rattle.rules.specs.Good.{FirstBy}
-
--- of n days from `start` on, the entry of the first of some transfers, and n where there is none
-unfoldable pub firstEntry : ℕ → ℕ → List Transfer → ℕ
-firstEntry n start [] = n
-firstEntry n start (t ∷ ts) = min (t .day - start) n
 
 -- transfers as an accepted file has them: their days ascend, the first is on or before a day, and they end within the file
 pub record SoundTransfers (file : List ℕ) (count at day : ℕ) : Type 0 where
