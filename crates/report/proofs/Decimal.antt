@@ -1,15 +1,15 @@
--- The laws of `decimal`: its digits one by one and two by two, and how many there are. Assumes nothing.
+-- The laws of `decimal`: its digits one by one, two by two and the last four, and how many there are. Assumes nothing.
 use mathlib.Core.Path.{_≡_, refl, sym, ap, _∙_}
-use mathlib.Core.Bool.{cond}
 use mathlib.Core.List.{List, [], _∷_, _++_, append-assoc}
 use Prim.Native.Nat.{ℕ, zero, suc, _+_, _*_, _/_, _%_, _^_, _≤_, _<_}
 use native.Mathlib.Nat.{pow-suc, lt-of-lt-of-le}
 use native.Mathlib.Decide.{decLt}
 use native.Mathlib.Omega.{arith}
 use borrow.Author.Tests.{lt-ltb, le-ltb}
-use lib.Dec.{ltb, lit≤}
+use lib.Dec.{lit≤}
 use lib.ListN.{length, length-append}
 use Rattle.rules.specs.Text.{digits, decimal}
+use Rattle.report.specs.Written.{twoDigits}
 
 digits-one : (k n : ℕ) → n < 10 → digits k n ≡ (48 + n) ∷ []
 unfolding digits
@@ -43,45 +43,46 @@ decimal-more zero h = absurd (omega arith)
 decimal-more (suc k) h =
     digits-more k (suc k) h ∙ ap (λ (l : List ℕ). l ++ ((48 + suc k % 10) ∷ [])) (digits-enough k (suc k / 10) (suc k / 10) (omega arith) (omega arith))
 
--- the digits before the last two: none where there are no more
-unfoldable pub higher : ℕ → List ℕ
-higher n = cond (ltb n 100) [] (decimal (n / 100))
+pub decimal-two : (n : ℕ) → 10 ≤ n → n < 100 → decimal n ≡ twoDigits n
+unfolding twoDigits
+decimal-two n h g = decimal-more n h ∙ ap (λ (l : List ℕ). l ++ ((48 + n % 10) ∷ [])) (decimal-one (n / 10) (omega arith))
 
-pub higher-none : (n : ℕ) → n < 100 → higher n ≡ []
-unfolding higher
-higher-none n h = simp (lt-ltb n 100 h)
-
-pub higher-some : (n : ℕ) → 100 ≤ n → higher n ≡ decimal (n / 100)
-unfolding higher
-higher-some n h = simp (le-ltb n 100 h)
-
--- all but the last digit, of two or more
-higher-then : (n : ℕ) → 10 ≤ n → decimal (n / 10) ≡ higher n ++ ((48 + n / 10 % 10) ∷ [])
-higher-then n h =
-    elim (decLt n 100) [
-      | yes lt ↦
-          decimal-one (n / 10) (omega arith)
-          ∙ ap (λ d. (48 + d) ∷ []) {x = n / 10} {y = n / 10 % 10} (omega arith)
-          ∙ ap (λ (l : List ℕ). l ++ ((48 + n / 10 % 10) ∷ [])) (sym (higher-none n lt))
-      | no ge ↦
-          decimal-more (n / 10) (omega arith)
-          ∙ ap (λ (l : List ℕ). l ++ ((48 + n / 10 % 10) ∷ [])) (ap decimal {x = n / 10 / 10} {y = n / 100} (omega arith) ∙ sym (higher-some n (omega arith)))
-    ]
-
-pub decimal-pair : (n : ℕ) → 10 ≤ n → decimal n ≡ higher n ++ ((48 + n % 100 / 10) ∷ (48 + n % 100 % 10) ∷ [])
+-- of three digits or more, the last two
+pub decimal-pair : (n : ℕ) → 100 ≤ n → decimal n ≡ decimal (n / 100) ++ twoDigits (n % 100)
+unfolding twoDigits
 decimal-pair n h =
-    let tens : n % 100 / 10 ≡ n / 10 % 10 = omega arith in
-    let ones : n % 100 % 10 ≡ n % 10 = omega arith in
-    rw (tens, ones) (decimal-more n h ∙ ap (λ (l : List ℕ). l ++ ((48 + n % 10) ∷ [])) (higher-then n h) ∙ append-assoc (higher n) _ _)
+    let before : n / 10 / 10 ≡ n / 100 = omega arith in
+    let tens : n / 10 % 10 ≡ n % 100 / 10 = omega arith in
+    let ones : n % 10 ≡ n % 100 % 10 = omega arith in
+    decimal-more n (omega arith)
+    ∙ ap (λ (l : List ℕ). l ++ ((48 + n % 10) ∷ [])) (decimal-more (n / 10) (omega arith))
+    ∙ rw (before, tens, ones, append-assoc)
+
+-- of five digits or more, the last four
+pub decimal-four : (n : ℕ) → 10000 ≤ n → decimal n ≡ (decimal (n / 10000) ++ twoDigits (n % 10000 / 100)) ++ twoDigits (n % 10000 % 100)
+decimal-four n h =
+    let before : n / 100 / 100 ≡ n / 10000 = omega arith in
+    let first : n / 100 % 100 ≡ n % 10000 / 100 = omega arith in
+    let second : n % 100 ≡ n % 10000 % 100 = omega arith in
+    decimal-pair n (omega arith) ∙ rw (decimal-pair (n / 100) (omega arith), before, first, second)
 
 pub length-one : (n : ℕ) → n < 10 → length (decimal n) ≡ 1
 length-one n h = ap length (decimal-one n h)
 
-pub length-more : (n : ℕ) → 10 ≤ n → length (decimal n) ≡ length (decimal (n / 10)) + 1
+length-more : (n : ℕ) → 10 ≤ n → length (decimal n) ≡ length (decimal (n / 10)) + 1
 length-more n h = ap length (decimal-more n h) ∙ length-append (decimal (n / 10)) _
 
-pub length-pair : (n : ℕ) → 10 ≤ n → length (decimal n) ≡ length (higher n) + 2
-length-pair n h = ap length (decimal-pair n h) ∙ length-append (higher n) _
+pub length-two : (n : ℕ) → 10 ≤ n → n < 100 → length (decimal n) ≡ 2
+unfolding twoDigits
+length-two n h g = ap length (decimal-two n h g)
+
+pub length-pair : (n : ℕ) → 100 ≤ n → length (decimal n) ≡ length (decimal (n / 100)) + 2
+unfolding twoDigits
+length-pair n h = ap length (decimal-pair n h) ∙ length-append (decimal (n / 100)) _
+
+pub length-four : (n : ℕ) → 10000 ≤ n → length (decimal n) ≡ length (decimal (n / 10000)) + 4
+unfolding twoDigits
+length-four n h = ap length (decimal-four n h) ∙ simp length-append (omega arith)
 
 -- a number below 10 ^ (k + 1) has at most k + 1 digits
 decimal-most : (k n : ℕ) → n < 10 ^ suc k → length (decimal n) ≤ suc k

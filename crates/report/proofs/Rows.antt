@@ -1,7 +1,7 @@
 -- The blocks of the first rows, one row more at a time, and what fits of them. Assumes nothing.
 use mathlib.Core.Path.{_≡_, refl, sym, ap, _∙_}
 use mathlib.Core.List.{List, [], _∷_, _++_, append-assoc, append-nil, map}
-use Prim.Native.Nat.{ℕ, zero, suc, _+_, _≤_, _<_}
+use Prim.Native.Nat.{ℕ, zero, suc, _+_, _*_, _≤_, _<_}
 use native.Mathlib.Numerals.{add-one}
 use native.Mathlib.Omega.{arith}
 use lib.ListN.{length, take, drop, getD, length-append, length-map, take-append-drop}
@@ -10,6 +10,7 @@ use Rattle.rules.specs.declared.Row.{Row}
 use Rattle.rules.specs.Settlement.{days, litres}
 use Rattle.rules.specs.Report.{block, blocks}
 use Rattle.rules.specs.Fits.{Fits, AllFit}
+use Rattle.report.specs.Written.{Long}
 
 -- of an array that is a field, what is known is the length of what its elements are made into
 pub length-mapped : {A B : Type 0} (f : A → B) (l : List A) (n : ℕ) → length (map f l) ≡ n → length l ≡ n
@@ -19,7 +20,7 @@ length-mapped f l n h = sym (length-map l f) ∙ h
 abbrev noRow : Row
 noRow = record { provider = 0; days = days 0; litres = litres 0; charges = [] }
 
-abbrev rowAt : List Row → ℕ → Row
+abbrev pub rowAt : List Row → ℕ → Row
 rowAt rows k = getD rows k noRow
 
 blocks-append : (xs ys : List Row) → blocks (xs ++ ys) ≡ blocks xs ++ blocks ys
@@ -48,8 +49,12 @@ module _ (rows : List Row) (k : ℕ) (h : k < length rows) where
   blocks-more =
       rw (add-one, take-suc rows k noRow h) (blocks-append (take k rows) (rowAt rows k ∷ []) ∙ ap (λ t. blocks (take k rows) ++ t) (blocks-one (rowAt rows k)))
 
-  pub more-size : length (blocks (take (k + 1) rows)) ≡ length (blocks (take k rows)) + length (block (rowAt rows k))
+  more-size : length (blocks (take (k + 1) rows)) ≡ length (blocks (take k rows)) + length (block (rowAt rows k))
   more-size = ap length blocks-more ∙ length-append (blocks (take k rows)) (block (rowAt rows k))
+
+  -- 414 for each block
+  pub more-long : {s n : ℕ} → Long (blocks (take k rows)) (414 * k) s → Long (block (rowAt rows k)) 414 n → Long (blocks (take (k + 1) rows)) (414 * (k + 1)) (s + n)
+  more-long ls ln = record { is = omega (arith, more-size); most = omega arith }
 
   -- where there is room for the first n blocks, there is for the one at k after those before it
   pub block-within : (n : ℕ) → k < n → length (blocks (take k rows)) + length (block (rowAt rows k)) ≤ length (blocks (take n rows))

@@ -5,12 +5,13 @@ use native.Mathlib.Omega.{arith}
 use borrow.Author.Needs.{needs}
 use lib.ListN.{length, take}
 use Rattle.rules.specs.Report.{blocks}
-use Rattle.report.proofs.Rows.{more-size, fits-at}
+use Rattle.report.specs.Written.{Long}
+use Rattle.report.proofs.Rows.{more-long, fits-at}
 use Rattle.report.proofs.blocks_length.Statement.{statement}
 use Rattle.report.proofs.blocks_length.Tie as tie
 
 abbrev Inv-loop : tie.InvT-loop
-Inv-loop count rows sum₀ k₀ sum k = (sum ≡ length (blocks (take k rows))) × (sum ≤ 414 * k) × (k ≤ count)
+Inv-loop count rows sum₀ k₀ sum k = Long (blocks (take k rows)) (414 * k) sum × (k ≤ count)
 
 abbrev μ-loop : tie.MeasureT-loop
 μ-loop count rows sum₀ k₀ sum k = count - k
@@ -22,7 +23,7 @@ blocks-length-spec =
     (tie.spec
     Inv-loop
     μ-loop
-    (λ c. (refl, omega arith, omega arith))
+    (λ c. (record { is = refl; most = omega arith }, omega arith))
     (λ c. search needs)
     (λ c. search needs)
     (λ c κs. let p1 = c .before .before in
@@ -33,7 +34,6 @@ blocks-length-spec =
     (λ c. search needs)
     (λ c. let p1 = c .before .before .before in
     let s = p1 .before in
-    let e = more-size (s .args .t1) (p1 .loop .k) (search needs) in
-    omega arith)
+    (more-long (s .args .t1) (p1 .loop .k) (search needs) (p1 .loop .inv .0) (c .block-length .ensures), omega arith))
     (λ c. let e : c .before .loop .k ≡ c .before .before .args .count = omega arith in
     record { is = omega (arith, ap (λ n. length (blocks (take n (c .before .before .args .t1)))) e); most = omega arith }))

@@ -1,7 +1,6 @@
 -- `heading_length` meets its contract: by the digits of the year and the service's name. Assumes nothing.
-use native.Mathlib.Omega.{arith}
 use borrow.Author.Needs.{needs}
-use Rattle.report.proofs.Sizes.{heading-size}
+use Rattle.report.proofs.Sizes.{heading-long}
 use Rattle.report.proofs.heading_length.Statement.{statement}
 use Rattle.report.proofs.heading_length.Tie as tie
 
@@ -14,5 +13,4 @@ heading-length-spec =
     (λ c κs. search needs)
     (λ c. search needs)
     (λ c. let a = c .before .before .args in
-    let e = heading-size (a .service) (a .year) in
-    record { is = omega arith; most = omega arith }))
+    heading-long (a .service) (a .year) (c .before .number-length .ensures) (c .service-length .ensures)))

@@ -5,7 +5,7 @@ use native.Mathlib.Omega.{arith}
 use borrow.Author.Needs.{needs}
 use lib.ListN.{length}
 use Rattle.rules.specs.Text.{decimal}
-use Rattle.report.proofs.Decimal.{length-one, length-more, length-most}
+use Rattle.report.proofs.Decimal.{length-one, length-two, length-pair, length-most}
 use Rattle.report.proofs.number_length.Statement.{statement}
 use Rattle.report.proofs.number_length.Tie as tie
 
@@ -24,7 +24,11 @@ number-length-spec =
     (λ c. search needs)
     (λ c. search needs)
     (λ c. search needs)
-    (λ c. omega (arith, length-more (c .before .loop .left) (c .loop-test .taken)))
-    (λ c. let one = length-one (c .before .loop .left) (c .loop-test .left) in
-    let most = length-most (c .before .before .args .n) (omega arith) in
+    (λ c. omega (arith, length-pair (c .before .loop .left) (c .loop-test .taken)))
+    (λ c. search needs)
+    (λ c. let one = length-one (c .before .before .loop .left) (c .if1 .taken) in
+    let most = length-most (c .before .before .before .args .n) (omega arith) in
+    record { is = omega arith; most = omega arith })
+    (λ c. let two = length-two (c .before .before .loop .left) (omega arith) (omega arith) in
+    let most = length-most (c .before .before .before .args .n) (omega arith) in
     record { is = omega arith; most = omega arith }))

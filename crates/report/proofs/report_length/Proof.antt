@@ -1,8 +1,7 @@
 -- `report_length` meets its contract: the heading and the blocks. Assumes nothing.
-use native.Mathlib.Omega.{arith}
 use borrow.Author.Needs.{needs}
 use lib.ListN.{take}
-use Rattle.report.proofs.Sizes.{report-size}
+use Rattle.report.proofs.Sizes.{report-long}
 use Rattle.report.proofs.report_length.Statement.{statement}
 use Rattle.report.proofs.report_length.Tie as tie
 
@@ -14,5 +13,4 @@ report-length-spec =
     (λ c κs. search needs)
     (λ c. search needs)
     (λ c. let a = c .before .before .args in
-    let e = report-size (a .service) (a .year) (take (a .count) (a .rows)) in
-    record { is = omega arith; most = omega arith }))
+    report-long (a .service) (a .year) (take (a .count) (a .rows)) (c .before .heading-length .ensures) (c .blocks-length .ensures)))
