@@ -3,7 +3,7 @@ use Prim.Native.Nat.{ℕ, zero, suc, _+_, _-_, _*_, _/_, _≤_, _<_, _^_, min, z
 use mathlib.Core.Path.{_≡_, refl, sym, ap, ap₂, _∙_, subst}
 use mathlib.Core.Bool.{Bool, true, false, _&&_}
 use mathlib.Core.List.{List, [], _∷_}
-use native.Mathlib.Nat.{le-refl, mul-le-mul, mul-le-mul-left, mul-comm, mul-right-comm, mul-zero, zero-div, div-le-of-le-mul, mul-div-mul-right}
+use native.Mathlib.Nat.{le-refl, mul-le-mul, mul-le-mul-left, mul-comm, mul-right-comm, mul-suc, zero-div, div-le-of-le-mul, mul-div-mul-right}
 use native.Mathlib.Decide.{decLt}
 use native.Mathlib.Omega.{arith}
 use borrow.Author.Tests.{ltb-true, leb-true, eqb-true, eq-eqb, ne-eqb, le-leb, lt-leb, lt-ltb, le-ltb}
@@ -277,30 +277,49 @@ pub days-fit : (counts j : ℕ) {parts first last : ℕ} → Spreadable (counts 
 days-fit counts j s h = omega (arith, mul-le-mul (counts-fit counts s) h)
 
 -- THE FRACTION, shortened: 1,000 litres of a count are a factor of it below and above
-pub carried-short : (counts parts n j : ℕ) → counts * parts * j / (10 * n) ≡ carriedBefore (counts * 1000) parts n j
+carried-short : (counts parts n j : ℕ) → counts * parts * j / (10 * n) ≡ carriedBefore (counts * 1000) parts n j
 unfolding carriedBefore
 carried-short counts parts n j =
     let above : counts * parts * j * 1000 ≡ counts * 1000 * parts * j = sym (ap (λ x. x * j) (mul-right-comm counts 1000 parts) ∙ mul-right-comm (counts * parts) 1000 j) in
     let below : 10 * n * 1000 ≡ 10000 * n = omega arith in
     sym (mul-div-mul-right {m = 1000} (counts * parts * j) (10 * n) (omega arith)) ∙ ap₂ _/_ above below
 
--- no day comes before the first
-pub carried-none : (litres parts n : ℕ) {j : ℕ} → j ≡ 0 → 0 ≡ carriedBefore litres parts n j
-unfolding carriedBefore
-carried-none litres parts n e = sym (ap (λ j. litres * parts * j / (10000 * n)) e ∙ ap (λ x. x / (10000 * n)) (mul-zero (litres * parts)) ∙ zero-div (10000 * n))
+-- CARRIED FROM DAY TO DAY: before day d of an advance, the product is that of the days before it, and they carry `before`
+pub record Carrying (counts parts first last d product before : ℕ) : Type 0 where
+  pub multiplied : product ≡ counts * parts * (d - first)
+  pub carries : before ≡ carriedBefore (counts * 1000) parts (last - first) (d - first)
 
--- a day of an advance carries what the days up to and with it carry, less what those before it carry
-module _ (litres parts first last : ℕ) {d before up : ℕ} (from : first ≤ d) (b : before ≡ carriedBefore litres parts (last - first) (d - first))
-    (u : up ≡ carriedBefore litres parts (last - first) (d + 1 - first)) where
+-- a product of 0 is not divided
+pub nothing-carried : (m : ℕ) {product : ℕ} → product ≡ 0 → 0 ≡ product / m
+nothing-carried m z = sym (ap (λ x. x / m) z ∙ zero-div m)
+
+pub carrying-first : {counts parts first last d product before : ℕ} → product ≡ counts * parts * (d - first) → before ≡ product / (10 * (last - first)) →
+    Carrying counts parts first last d product before
+carrying-first {counts} {parts} {first} {last} {d} e q =
+    record { multiplied = e; carries = q ∙ ap (λ x. x / (10 * (last - first))) e ∙ carried-short counts parts (last - first) (d - first) }
+
+-- day d itself carries what the days up to and with it carry, less what those before it carry
+module _ {counts parts first last d product before : ℕ} (u : Carrying counts parts first last d product before) (from : first ≤ d) where
+  abbrev up : ℕ
+  up = (product + counts * parts) / (10 * (last - first))
+
+  pub carrying-turn : {next : ℕ} → next ≡ d + 1 → Carrying counts parts first last next (product + counts * parts) up
+  carrying-turn {next} e =
+      let days : next - first ≡ suc (d - first) = omega arith in
+      carrying-first (ap (λ x. x + counts * parts) (u .multiplied) ∙ sym (ap (λ j. counts * parts * j) days ∙ mul-suc (counts * parts) (d - first))) refl
+
   pub carried-grows : before ≤ up
   unfolding carriedBefore
-  carried-grows = rw (b, u) (div-mono (10000 * (last - first)) (mul-le-mul-left (litres * parts) (omega arith)))
+  carried-grows = rw (u .carries, carrying-turn refl .carries) (div-mono (10000 * (last - first)) (mul-le-mul-left (counts * 1000 * parts) (omega arith)))
 
-  pub carried-step : up - before ≡ carried litres parts first last d
+  pub carried-step : up - before ≡ carried (counts * 1000) parts first last d
   unfolding carried
   carried-step =
       let next : d + 1 - first ≡ d - first + 1 = omega arith in
-      ap₂ _-_ (u ∙ ap (carriedBefore litres parts (last - first)) next) b
+      ap₂ _-_ (carrying-turn refl .carries ∙ ap (carriedBefore (counts * 1000) parts (last - first)) next) (u .carries)
+
+  pub product-fits : Spreadable (counts * 1000) parts first last → d < last → product + counts * parts ≤ 3660000000000000
+  product-fits s h = omega (arith, carrying-turn refl .multiplied, days-fit counts (d + 1 - first) s (omega (arith, s .near)))
 
 -- a day of an advance carries at most the litres × parts
 pub spread-most : {litres parts first last : ℕ} (d : ℕ) → Spreadable litres parts first last → spread litres parts first last d ≤ litres * parts

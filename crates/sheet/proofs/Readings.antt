@@ -1,12 +1,15 @@
 -- A meter's reads and the tariff's bands, one at a time. Assumes nothing.
-use Prim.Native.Nat.{ℕ, suc, _+_, _-_, _*_, _≤_, _<_}
+use Prim.Native.Nat.{ℕ, suc, _+_, _-_, _*_, _≤_, _<_, zero-le}
 use mathlib.Core.Path.{_≡_, refl, sym, ap, _∙_, subst}
 use mathlib.Core.Bool.{Bool, true, false, cond}
 use mathlib.Core.List.{List, [], _∷_, map}
 use native.Mathlib.Nat.{pow-le-pow-right, mul-le-mul}
+use native.Mathlib.Decide.{decLt}
 use native.Mathlib.Omega.{arith}
 use borrow.Author.Tests.{eq-eqb, ne-eqb}
 use lib.Dec.{leb}
+use lib.ListN.{length, getD, set, length-set}
+use lib.Seq.{getD-set-same, getD-set-other}
 use Rattle.rules.specs.declared.Read.{Read}
 use Rattle.rules.specs.declared.Band.{Band}
 use Rattle.rules.specs.declared.MeterHead.{MeterHead}
@@ -18,7 +21,7 @@ use Rattle.rules.specs.Good.{GoodMeterHead, GoodRead, GoodAdvance, GoodAdvances
 use Rattle.rules.proofs.Lists.{latest-ahead, latest-here}
 use Rattle.records.proofs.Positions.{length-records}
 use Rattle.sheet.specs.Sheets.{Grown, Room}
-use Rattle.sheet.specs.Meters.{during, carried, spread, Spreadable, meterOf}
+use Rattle.sheet.specs.Meters.{during, carried, spread, Spreadable, meterOf, SizesOf}
 use Rattle.sheet.proofs.Growth.{Rest, rest-all, rest-room, rest-more, rest-none}
 use Rattle.records.proofs.Ahead.{Ahead, read-one, read-past, ahead-done}
 
@@ -129,6 +132,31 @@ module _ (file : List ℕ) (m : MeterHead) (at start : ℕ) where
     reads-done {l} {a} z u =
         let v = ahead-done u z in
         (v .0 ∙ sym (read-past (readAt file) (λ at r. afterRead at) (m .reads) at h e), subst (λ rs. Grown l a start (meterLitres (meterOf m rs))) (sym begun) (reads-end (v .1)))
+
+-- THE SIZES OF THE BANDS, written one after the other
+module _ {file : List ℕ} {at : ℕ} where
+  pub sizes-none : (sizes : List ℕ) → SizesOf file 0 at sizes
+  sizes-none sizes = record { long = zero-le; each = λ i h. absurd (omega arith) }
+
+  pub sizes-more : {k : ℕ} {sizes : List ℕ} (size : ℕ) → SizesOf file k at sizes → k < length sizes → size ≡ bandAt file (at + k * 90) .size → SizesOf file (k + 1) at (set sizes k size)
+  sizes-more {k} {sizes} size u h e =
+      record {
+        long = omega (arith, length-set sizes k size);
+        each = λ i q. elim (decLt i k) [
+          | yes lt ↦ getD-set-other sizes k i size 0 (omega arith) ∙ u .each i lt
+          | no ge ↦
+              let same : i ≡ k = omega arith in
+              rw same (getD-set-same sizes k size 0 h ∙ e)
+        ];
+      }
+
+  -- the loop is past the last band
+  pub sizes-to : {k : ℕ} {sizes : List ℕ} (count : ℕ) → SizesOf file k at sizes → count ≤ k → SizesOf file count at sizes
+  sizes-to count u h = record { long = omega (arith, u .long); each = λ i q. u .each i (omega arith) }
+
+  -- the size of the first band that is left
+  pub size-next : {count left next : ℕ} {sizes : List ℕ} (k : ℕ) → SizesOf file count at sizes → k + left ≡ count → next ≡ at + k * 90 → 0 < left → getD sizes k 0 ≡ bandAt file next .size
+  size-next k u n e h = u .each k (omega arith) ∙ ap (λ p. bandAt file p .size) (sym e)
 
 -- BANDS: `served` is what serves a size, of the band that stands at `best` and then the bands that are left, whose sizes ascend
 pub record Serving (file : List ℕ) (size : ℕ) (served : Band) (best : ℕ) (left : List Band) : Type 0 where

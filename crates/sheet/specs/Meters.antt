@@ -4,12 +4,13 @@ use mathlib.Core.Path.{_≡_}
 use mathlib.Core.Bool.{Bool, _&&_}
 use mathlib.Core.List.{List, map}
 use lib.Dec.{leb, ltb}
+use lib.ListN.{length, getD}
 use Rattle.rules.specs.declared.Band.{Band}
 use Rattle.rules.specs.declared.Read.{Read}
 use Rattle.rules.specs.declared.MeterHead.{MeterHead}
 use Rattle.rules.specs.Sums.{only, over}
 use Rattle.rules.specs.Lists.{All, Ascending}
-use Rattle.rules.specs.File.{Meter, bands, meters, afterBands, afterMeters}
+use Rattle.rules.specs.File.{Meter, bandAt, bands, meters, afterBands, afterMeters}
 use Rattle.rules.specs.Litres.{carriedBefore, meterLitres}
 use Rattle.rules.specs.Charges.{bandFor}
 use Rattle.rules.specs.Good.{GoodBand, GoodMeter}
@@ -48,6 +49,11 @@ meterOf h rs =
       removed = h .removed;
       reads = rs;
     }
+
+-- the first of the sizes are those of so many bands, from a position on
+pub record SizesOf (file : List ℕ) (count at : ℕ) (sizes : List ℕ) : Type 0 where
+  pub long : count ≤ length sizes
+  pub each : (k : ℕ) → k < count → getD sizes k 0 ≡ bandAt file (at + k * 90) .size
 
 -- a figure of the band of a meter × its share, on its meter days
 unfoldable pub weighed : (Band → ℕ) → List Band → Meter → ℕ → ℕ

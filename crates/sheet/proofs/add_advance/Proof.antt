@@ -1,20 +1,20 @@
 -- `sheet::add_advance` meets its contract: the entries of the advance below i have what their day carries more. Assumes nothing.
 use Prim.Native.Nat.{_+_, _-_, _*_, min}
-use mathlib.Core.Path.{_≡_, ap, _∙_}
+use mathlib.Core.Path.{_≡_, refl, ap, _∙_}
+use mathlib.Core.Logic.{⊎-elim}
 use native.Mathlib.Omega.{arith}
 use lib.ListN.{length, getD}
-use Rattle.rules.specs.Litres.{carriedBefore}
 use Rattle.sheet.specs.Meters.{carried, spread}
-use Rattle.sheet.proofs.Growth.{Adding, adding-none, adding-day, adding-room, adding-more, adding-done, carried-grows, carried-step}
+use Rattle.sheet.proofs.Growth.{Adding, adding-none, adding-day, adding-room, adding-more, adding-done, counts-fit, days-fit, Carrying, nothing-carried, carrying-first, carrying-turn, carried-grows, carried-step, product-fits}
 use borrow.Author.Needs.{needs}
 use Rattle.sheet.proofs.add_advance.Statement.{statement}
 use Rattle.sheet.proofs.add_advance.Tie as tie
 
 abbrev Inv-loop : tie.InvT-loop
-Inv-loop sheet₀ start counts parts first last end i₀ before₀ sheet i before = Adding sheet₀ sheet start first last (carried (counts * 1000) parts first last) i₀ i × (end ≡ min (last - start) (length sheet₀)) × (before ≡ carriedBefore (counts * 1000) parts (last - first) (start + i - first))
+Inv-loop sheet₀ start counts parts first last end i₀ amount m product₀ before₀ sheet i product before = Adding sheet₀ sheet start first last (carried (counts * 1000) parts first last) i₀ i × (end ≡ min (last - start) (length sheet₀)) × Carrying counts parts first last (start + i) product before
 
 abbrev μ-loop : tie.MeasureT-loop
-μ-loop sheet₀ start counts parts first last end i₀ before₀ sheet i before = end - i
+μ-loop sheet₀ start counts parts first last end i₀ amount m product₀ before₀ sheet i product before = end - i
 
 entry-requires : tie.Need-entry-requires Inv-loop μ-loop
 entry-requires c κs = search needs
@@ -26,36 +26,48 @@ returns : tie.Need-returns Inv-loop μ-loop
 unfolding spread
 returns c = adding-done _ (adding-none _ (c .before .entry2 .ensures)) (c .before .before .entry .ensures) (c .if1 .taken)
 
-add-carried-already : tie.Need-add-carried-already Inv-loop μ-loop
-add-carried-already c = omega (arith, c .before .entry2 .ensures, c .before .before .entry .ensures, c .if1 .left)
+mul-amount : tie.Need-mul-amount Inv-loop μ-loop
+mul-amount c = omega (arith, counts-fit (c .before .before .before .before .args .counts) (c .before .before .before .before .pre .1))
 
-carried-already-requires : tie.Need-carried-already-requires Inv-loop μ-loop
-carried-already-requires c κs = ((c .before .before .before .before .pre) .1, (omega (arith, c .before .entry2 .ensures, c .before .before .entry .ensures, c .if1 .left), omega (arith, c .before .entry2 .ensures, c .before .before .entry .ensures, c .if1 .left)))
+sub-m : tie.Need-sub-m Inv-loop μ-loop
+sub-m c = omega (arith, c .before .before .before .before .pre .1 .some, c .before .before .before .before .pre .1 .near)
+
+mul-m : tie.Need-mul-m Inv-loop μ-loop
+mul-m c = omega (arith, c .before .before .before .before .pre .1 .some, c .before .before .before .before .pre .1 .near)
+
+add-product : tie.Need-add-product Inv-loop μ-loop
+add-product c = omega (arith, c .before .entry2 .ensures, c .before .before .entry .ensures, c .if1 .left)
+
+sub-product : tie.Need-sub-product Inv-loop μ-loop
+sub-product c = omega (arith, c .before .entry2 .ensures, c .before .before .entry .ensures, c .if1 .left)
+
+mul-product : tie.Need-mul-product Inv-loop μ-loop
+mul-product c = let s = c .before .before .before .before .args in omega (arith, days-fit (s .counts) (s .start + c .before .entry2 .result - s .first) (c .before .before .before .before .pre .1) (omega (arith, c .before .before .before .before .pre .1 .near, c .before .entry2 .ensures, c .before .before .entry .ensures, c .if1 .left)))
+
+div-before : tie.Need-div-before Inv-loop μ-loop
+div-before c = omega (arith, c .before .before .before .before .before .pre .1 .some)
 
 loop-holds : tie.Need-loop-holds Inv-loop μ-loop
-loop-holds c = (adding-none _ (c .before .before .entry2 .ensures), c .before .before .before .entry .ensures, c .carried-already .ensures)
+loop-holds c = (adding-none _ (c .before .before .entry2 .ensures), c .before .before .before .entry .ensures, carrying-first refl (⊎-elim (λ none. none .1 ∙ nothing-carried _ (none .0 .taken)) (λ some. some .1) (c .if2 .came)))
 
-add-carried-before : tie.Need-add-carried-before Inv-loop μ-loop
-add-carried-before c = let u = c .before .loop .inv in omega (arith, adding-day _ (u .0) (u .1) (c .loop-test .taken))
+add-product-2 : tie.Need-add-product-2 Inv-loop μ-loop
+add-product-2 c = let u = c .before .loop .inv in let day = adding-day _ (u .0) (u .1) (c .loop-test .taken) in omega (arith, product-fits (u .2) (day .0) (c .before .before .before .before .before .before .before .pre .1) (day .1))
 
-add-carried-before-2 : tie.Need-add-carried-before-2 Inv-loop μ-loop
-add-carried-before-2 c = let u = c .before .loop .inv in omega (arith, adding-day _ (u .0) (u .1) (c .loop-test .taken))
-
-carried-before-requires : tie.Need-carried-before-requires Inv-loop μ-loop
-carried-before-requires c κs = let u = c .before .loop .inv in let day = adding-day _ (u .0) (u .1) (c .loop-test .taken) in ((c .before .before .before .before .before .before .before .pre) .1, (omega (arith, day), omega (arith, day)))
+div-up : tie.Need-div-up Inv-loop μ-loop
+div-up c = omega (arith, c .before .before .before .before .before .before .before .pre .1 .some)
 
 mul-sheet : tie.Need-mul-sheet Inv-loop μ-loop
-mul-sheet c = let u = c .before .before .loop .inv in omega (arith, adding-day _ (u .0) (u .1) (c .before .loop-test .taken), u .0 .written .long)
+mul-sheet c = let u = c .before .loop .inv in omega (arith, adding-day _ (u .0) (u .1) (c .loop-test .taken), u .0 .written .long)
 
 slice-read-sheet : tie.Need-slice-read-sheet Inv-loop μ-loop
-slice-read-sheet c = let u = c .before .before .before .loop .inv in omega (arith, adding-day _ (u .0) (u .1) (c .before .before .loop-test .taken), u .0 .written .long)
+slice-read-sheet c = let u = c .before .before .loop .inv in omega (arith, adding-day _ (u .0) (u .1) (c .before .loop-test .taken), u .0 .written .long)
 
 sub-sheet : tie.Need-sub-sheet Inv-loop μ-loop
-sub-sheet c = let u = c .before .before .before .loop .inv in carried-grows _ _ _ _ (adding-day _ (u .0) (u .1) (c .before .before .loop-test .taken) .0) (u .2) (c .before .carried-before .ensures)
+sub-sheet c = let u = c .before .before .before .loop .inv in carried-grows (u .2) (adding-day _ (u .0) (u .1) (c .before .before .loop-test .taken) .0)
 
 add-sheet : tie.Need-add-sheet Inv-loop μ-loop
 unfolding spread
-add-sheet c = let u = c .before .before .before .loop .inv in omega (arith, adding-room _ (u .0) (u .1) ((c .before .before .before .before .before .before .before .before .before .pre) .0) (c .before .before .loop-test .taken), carried-step _ _ _ _ (adding-day _ (u .0) (u .1) (c .before .before .loop-test .taken) .0) (u .2) (c .before .carried-before .ensures))
+add-sheet c = let u = c .before .before .before .loop .inv in omega (arith, adding-room _ (u .0) (u .1) (c .before .before .before .before .before .before .before .before .before .pre .0) (c .before .before .loop-test .taken), carried-step (u .2) (adding-day _ (u .0) (u .1) (c .before .before .loop-test .taken) .0))
 
 mul-sheet-2 : tie.Need-mul-sheet-2 Inv-loop μ-loop
 mul-sheet-2 c = let u = c .before .before .before .loop .inv in omega (arith, adding-day _ (u .0) (u .1) (c .before .before .loop-test .taken), u .0 .written .long)
@@ -67,10 +79,10 @@ add-i : tie.Need-add-i Inv-loop μ-loop
 add-i c = search needs
 
 loop-less : tie.Need-loop-less Inv-loop μ-loop
-loop-less c = search needs
+loop-less c = omega (arith, c .before .before .loop-test .taken)
 
 loop-again : tie.Need-loop-again Inv-loop μ-loop
-loop-again c = let l = c .before .before .before .loop in let u = l .inv in let day = adding-day _ (u .0) (u .1) (c .before .before .loop-test .taken) in (adding-more _ (u .0) (u .1) (c .before .before .loop-test .taken) (ap (λ x. getD (l .sheet) (l .i) 0 + x) (carried-step _ _ _ _ (day .0) (u .2) (c .before .carried-before .ensures))), u .1, c .before .carried-before .ensures ∙ ap (carriedBefore _ _ _) (omega arith))
+loop-again c = let l = c .before .before .before .loop in let u = l .inv in let day = adding-day _ (u .0) (u .1) (c .before .before .loop-test .taken) in (adding-more _ (u .0) (u .1) (c .before .before .loop-test .taken) (ap (λ x. getD (l .sheet) (l .i) 0 + x) (carried-step (u .2) (day .0))), u .1, carrying-turn (u .2) (day .0) (omega arith))
 
 same-length : tie.Need-same-length Inv-loop μ-loop
 same-length c = c .before .loop .inv .0 .written .long
@@ -88,12 +100,16 @@ add-advance-spec =
     entry-requires
     entry-requires-2
     returns
-    add-carried-already
-    carried-already-requires
+    mul-amount
+    sub-m
+    mul-m
+    add-product
+    sub-product
+    mul-product
+    div-before
     loop-holds
-    add-carried-before
-    add-carried-before-2
-    carried-before-requires
+    add-product-2
+    div-up
     mul-sheet
     slice-read-sheet
     sub-sheet
