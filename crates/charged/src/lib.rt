@@ -33,9 +33,6 @@ pub fn charged_days(year: u64, connected: u64, disconnected: u64) -> Charged
 pub fn entry(count: usize, start: u64, day: u64) -> usize
     ensures { λ r. ⌜ r ≡ min (day - start) count ⌝ }
 {
-    if day <= start {
-        return 0;
-    }
-    let i = day - start;
+    let i = past(day, start);
     if i < count as u64 { i as usize } else { count }
 }

@@ -3,7 +3,7 @@ use Prim.Native.Nat.{ℕ, zero, suc, _+_, _*_, _/_, _%_, _^_, _-_, _≤_, _<_}
 use mathlib.Core.Logic.{_⊎_, inl, inr, ⊎-elim}
 use mathlib.Core.Path.{_≡_, refl, ap, sym, _∙_}
 use native.Mathlib.Omega.{arith}
-use native.Mathlib.Nat.{pow-suc, div-div-eq-div-mul, div-le-self, div-one, le-of-lt, mul-le-mul-left, mul-le-mul-right, mul-lt-mul-of-pos-right, pow-le-pow-right, le-div-iff-mul-le}
+use native.Mathlib.Nat.{pow-suc, div-div-eq-div-mul, div-eq-of-lt, div-le-self, div-one, le-of-lt, mul-le-mul-left, mul-le-mul-right, mul-lt-mul-of-pos-right, pow-le-pow-right, le-div-iff-mul-le}
 use lib.Arith.{digits-div}
 use lib.Count.{leadingZeros, leading-length}
 use lib.Pow.{pow-pos, pow-add}
@@ -38,6 +38,12 @@ module _ (a b k : ℕ) where
 -- the quotient alone
 pub quotient : (d x w r : ℕ) → r < d → w * d + r ≡ x → w ≡ x / d
 quotient d x w r h e = sym (ap (λ z. z / d) (sym e) ∙ digits-div w h)
+
+-- above its binary digits a number has none
+pub front-none : (a : ℕ) → a < 2 ^ 64 → a / 2 ^ (64 - leadingZeros 64 a) ≡ 0
+front-none a h =
+    let p = leading-length 64 a h in
+    ap (λ j. a / 2 ^ j) {x = 64 - leadingZeros 64 a} {y = p .0} (omega (arith, p .1)) ∙ div-eq-of-lt (p .2)
 
 -- a product that fits, by the binary digits of its factors
 pub product-fits : (a b : ℕ) → a < 2 ^ 64 → b < 2 ^ 64 → 64 ≤ leadingZeros 64 a + leadingZeros 64 b → a * b < 2 ^ 64

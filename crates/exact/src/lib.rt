@@ -50,7 +50,7 @@ fn long_product(a: u64, b: u64, d: u64) -> Parts
         rest: b % d,
     };
     let mut p = Parts { whole: 0, rest: 0 };
-    let mut k: u64 = 64;
+    let mut k = 64 - u64::leading_zeros(a);
     while 0 < k {
         k -= 1;
         p = step(p, (a >> k) % 2, q, d);

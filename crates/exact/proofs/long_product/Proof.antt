@@ -2,10 +2,11 @@
 use Prim.Native.Nat.{_+_, _*_, _/_, _%_, _^_, _≤_}
 use mathlib.Core.Path.{ap, _∙_}
 use native.Mathlib.Omega.{arith}
-use native.Mathlib.Nat.{div-add-mod', mod-lt, div-eq-of-lt}
+use native.Mathlib.Nat.{div-add-mod', mod-lt}
+use lib.Count.{leading-le}
 use borrow.Author.Needs.{needs}
 use Rattle.exact.specs.Parts.{value, Of}
-use Rattle.exact.proofs.Laws.{front-more, front-fits, front-all}
+use Rattle.exact.proofs.Laws.{front-more, front-fits, front-all, front-none}
 use Rattle.exact.proofs.long_product.Statement.{statement}
 use Rattle.exact.proofs.long_product.Tie as tie
 
@@ -21,11 +22,17 @@ div-t7 c = search needs
 rem-t8 : tie.Need-rem-t8 Inv-loop μ-loop
 rem-t8 c = search needs
 
-loop-holds : tie.Need-loop-holds Inv-loop μ-loop
-loop-holds c = (omega arith, record { small = c .pre .0; is = omega (arith, ap (λ z. z * c .args .b) (div-eq-of-lt {n = c .args .a} {m = 2 ^ 64} (omega arith))) })
-
 sub-k : tie.Need-sub-k Inv-loop μ-loop
-sub-k c = omega arith
+sub-k c = leading-le 64 (c .args .a)
+
+loop-holds : tie.Need-loop-holds Inv-loop μ-loop
+loop-holds c = (omega arith, record { small = c .pre .0; is = omega (arith, ap (λ z. z * c .args .b) (front-none (c .args .a) (omega arith))) })
+
+sub-k-2 : tie.Need-sub-k-2 Inv-loop μ-loop
+sub-k-2 c = omega arith
+
+cast-step : tie.Need-cast-step Inv-loop μ-loop
+cast-step c = omega (arith, c .before .loop .inv .0)
 
 shr-step : tie.Need-shr-step Inv-loop μ-loop
 shr-step c = omega arith
@@ -69,8 +76,10 @@ long-product-spec =
     μ-loop
     div-t7
     rem-t8
-    loop-holds
     sub-k
+    loop-holds
+    sub-k-2
+    cast-step
     shr-step
     step-requires
     loop-less
