@@ -20,7 +20,7 @@ use Rattle.rules.proofs.Lists.{latest-all}
 use Rattle.sheet.specs.declared.Figures.{Figures}
 use Rattle.sheet.specs.Sheets.{Filled, Grown, Room, counted, raised}
 use Rattle.sheet.specs.Meters.{during, Spreadable, meterOf, weighed, Weights, Sums, MeterSheet, litresSheet, annualSheet, allowanceSheet, thresholdSheet, meterFigure, four, standing, MeterRoom, MeterAdded, MetersFilled}
-use Rattle.sheet.proofs.Growth.{during-most, raised-room, raised-grown, raised-none, AllAlike, all-room, all-grown, grown-as, room-as, Rest, rest-all, rest-room, rest-more, rest-none, spread-most, amount-fits}
+use Rattle.sheet.proofs.Growth.{counted-none, during-most, raised-room, raised-grown, raised-none, AllAlike, all-room, all-grown, grown-as, room-as, Rest, rest-all, rest-room, rest-more, rest-none, spread-most, amount-fits}
 use Rattle.sheet.proofs.Readings.{advance-fits, spreadable, between-is}
 
 -- a figure of a band: 0 where there is none, and at most 10 ^ 9
@@ -219,6 +219,10 @@ module _ {l a : MeterSheet → List ℕ} {start : ℕ} (o : Cleared l a) where
   meters-end u s =
       let g = rest-none (u .rest s) (λ d. refl) in
       record { long = g .long ∙ o s .long; each = λ i h. omega (arith, g .each i (omega (arith, o s .long)), o s .each i h) }
+
+-- without a meter nothing counts of any sheet, and none is asked for
+pub no-meters : (l n a t : List ℕ) {start : ℕ} (bs : List Band) → All GoodBand bs → MetersFilled (four l n a t) (standing nothing true (counted true l) n a t) start bs []
+no-meters l n a t bs priced = let o = cleared n a t (counted-none l) in meters-end o (meters-begin o priced tt zero-le)
 
 module _ {l a : MeterSheet → List ℕ} {start : ℕ} {bs : List Band} {all : List Meter} (m : Meter) (left : List Meter) (u : MetersLeft l a start bs all (m ∷ left)) where
   pub meters-room : MeterRoom a start bs m

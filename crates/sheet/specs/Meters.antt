@@ -15,7 +15,8 @@ use Rattle.rules.specs.Litres.{carriedBefore, meterLitres}
 use Rattle.rules.specs.Charges.{bandFor}
 use Rattle.rules.specs.Good.{GoodBand, GoodMeter}
 use Rattle.sheet.specs.declared.Figures.{Figures}
-use Rattle.sheet.specs.Sheets.{Filled, Grown, Room, stands}
+use Rattle.sheet.specs.declared.Besides.{Besides}
+use Rattle.sheet.specs.Sheets.{Filled, Grown, Room, stands, litresBy, figureBy}
 
 -- x on the days from `first` on, before `last`
 unfoldable pub during : ℕ → ℕ → ℕ → ℕ → ℕ
@@ -94,6 +95,11 @@ four litres annual allowance threshold thresholdSheet = threshold
 abbrev pub standing : Figures → Bool → List ℕ → List ℕ → List ℕ → List ℕ → MeterSheet → List ℕ
 standing every fresh litres annual allowance threshold =
     four litres (stands (every .annual) fresh annual) (stands (every .allowance) fresh allowance) (stands (every .threshold) fresh threshold)
+
+-- the four that stand for what each day of a point has, by what counts of its sheets
+abbrev pub standingBy : Besides → List ℕ → List ℕ → List ℕ → List ℕ → MeterSheet → List ℕ
+standingBy b litres annual allowance threshold =
+    four (litresBy b litres) (figureBy b (b .every .annual) annual) (figureBy b (b .every .allowance) allowance) (figureBy b (b .every .threshold) threshold)
 
 -- room for a meter, and the sheets after it
 abbrev pub MeterRoom : (MeterSheet → List ℕ) → ℕ → List Band → Meter → Type 0
