@@ -1,4 +1,4 @@
--- The place of a number in an ascending list, by halving what is left of it. Assumes nothing.
+-- The place of a number in an ascending list: where it stands, and by halving what is left of the list. Assumes nothing.
 use Prim.Native.Nat.{ℕ, _+_, _-_, _*_, _≤_, _<_}
 use mathlib.Core.Bool.{cond}
 use mathlib.Core.Path.{_≡_}
@@ -18,6 +18,10 @@ pub record Halving (list : List ℕ) (count p low left : ℕ) : Type 0 where
   pub above : (k : ℕ) → low + left ≤ k → k < count → p ≤ getD list k 0
 
 module _ {list : List ℕ} {count p : ℕ} where
+  -- the place of a number that stands in the list
+  pub placed-there : Ascends list count → {at : ℕ} → at < count → getD list at 0 ≡ p → Placed list count p at
+  placed-there up {at} h is = record { within = omega arith; below = λ k l. omega (arith, up k at l h); here = λ l. omega arith }
+
   pub halving-begin : Halving list count p 0 count
   halving-begin = record { within = omega arith; below = λ k h. absurd (omega arith); above = λ k h l. absurd (omega arith) }
 

@@ -10,10 +10,10 @@ use Rattle.providers.proofs.provider_list.Statement.{statement}
 use Rattle.providers.proofs.provider_list.Tie as tie
 
 abbrev Inv-loop : tie.InvT-loop
-Inv-loop file head bands at₀ list₀ count₀ points-left₀ at list count points-left = Listing file (head .year) points-left at list count
+Inv-loop file head bands at₀ list₀ found₀ count₀ points-left₀ at list found count points-left = Listing file (head .year) points-left at list count
 
 abbrev μ-loop : tie.MeasureT-loop
-μ-loop file head bands at₀ list₀ count₀ points-left₀ at list count points-left = points-left
+μ-loop file head bands at₀ list₀ found₀ count₀ points-left₀ at list found count points-left = points-left
 
 header-requires : tie.Need-header-requires Inv-loop μ-loop
 header-requires c κs = search needs
@@ -37,7 +37,7 @@ slice-aggregate-put-point : tie.Need-slice-aggregate-put-point Inv-loop μ-loop
 slice-aggregate-put-point c = search needs
 
 put-point-requires : tie.Need-put-point-requires Inv-loop μ-loop
-put-point-requires c κs = let s = c .before .before .loop .inv in ((point-here _ (s .points) (c .before .loop-test .taken), point-within _ (s .points) (c .before .loop-test .taken)), ((s .from, s .to), s .lent))
+put-point-requires c κs = let s = c .before .before .before .loop .inv in ((point-here _ (s .points) (c .before .before .loop-test .taken), point-within _ (s .points) (c .before .before .loop-test .taken)), ((s .from, s .to), s .lent))
 
 sub-points-left : tie.Need-sub-points-left Inv-loop μ-loop
 sub-points-left c = search needs
@@ -46,7 +46,7 @@ loop-less : tie.Need-loop-less Inv-loop μ-loop
 loop-less c = search needs
 
 loop-again : tie.Need-loop-again Inv-loop μ-loop
-loop-again c = listing-next _ (c .before .before .before .before .loop .inv) (c .before .before .before .loop-test .taken) (c .before .put-point .ensures)
+loop-again c = listing-next _ (c .before .before .before .before .before .loop .inv) (c .before .before .before .before .loop-test .taken) (c .before .put-point .ensures)
 
 returns : tie.Need-returns Inv-loop μ-loop
 returns c = listing-over _ (c .before .before .loop .inv) (omega arith) (c .if1 .taken)

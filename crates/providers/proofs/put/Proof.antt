@@ -12,8 +12,8 @@ returns c =
     let s = c .before .before in
     over-kept (now (s .args .list)) (s .args .count) (s .args .p) (s .pre) (c .if1 .taken)
 
-place-requires : tie.Need-place-requires
-place-requires c κs = (search needs, lent-ascends (c .before .before .before .pre) (omega arith))
+place-again-requires : tie.Need-place-again-requires
+place-again-requires c κs = (search needs, lent-ascends (c .before .before .before .before .pre) (omega arith))
 
 mul-if3 : tie.Need-mul-if3
 mul-if3 c = search needs
@@ -26,16 +26,16 @@ same-length c = search needs
 
 returns-2 : tie.Need-returns-2
 returns-2 c =
-    let s = c .before .before .before .before .before .before .before in
-    there-kept (now (s .args .list)) (s .args .count) (s .args .p) (s .pre) (omega arith) (c .before .before .before .place .ensures) (c .before .before .if2 .taken) (c .if3 .taken)
+    let s = c .before .before .before .before .before .before .before .before in
+    there-kept (now (s .args .list)) (s .args .count) (s .args .p) (s .pre) (omega arith) (c .before .before .before .place-again .ensures) (c .before .before .if2 .taken) (c .if3 .taken)
 
 same-length-2 : tie.Need-same-length-2
 same-length-2 c = search needs
 
 returns-3 : tie.Need-returns-3
 returns-3 c =
-    let s = c .before .before .before .before .before .before in
-    over-now (now (s .args .list)) (s .args .count) (s .args .p) (s .pre) (omega arith) (c .before .before .place .ensures) (λ h e. ⊎-elim (λ w. w .2 .left e) (λ w. omega arith) (c .before .if2 .came)) (c .if4 .taken)
+    let s = c .before .before .before .before .before .before .before in
+    over-now (now (s .args .list)) (s .args .count) (s .args .p) (s .pre) (omega arith) (c .before .before .place-again .ensures) (λ h e. ⊎-elim (λ w. w .2 .left e) (λ w. omega arith) (c .before .if2 .came)) (c .if4 .taken)
 
 shift-up-requires : tie.Need-shift-up-requires
 shift-up-requires c κs = search needs
@@ -54,15 +54,15 @@ same-length-3 c = search needs
 
 returns-4 : tie.Need-returns-4
 returns-4 c =
-    let s = c .before .before .before .before .before .before .before .before .before .before in
-    one-more (now (s .args .list)) (s .args .count) (s .args .p) (s .pre) (omega arith) (c .before .before .before .before .before .before .place .ensures) (λ h e. ⊎-elim (λ w. w .2 .left e) (λ w. omega arith) (c .before .before .before .before .before .if2 .came)) (omega arith) _ (c .before .before .shift-up .ensures)
+    let s = c .before .before .before .before .before .before .before .before .before .before .before in
+    one-more (now (s .args .list)) (s .args .count) (s .args .p) (s .pre) (omega arith) (c .before .before .before .before .before .before .place-again .ensures) (λ h e. ⊎-elim (λ w. w .2 .left e) (λ w. omega arith) (c .before .before .before .before .before .if2 .came)) (omega arith) _ (c .before .before .shift-up .ensures)
 
 pub put-spec : {M : Type 1} → statement M
 put-spec =
     tie.close
     (tie.spec
     returns
-    place-requires
+    place-again-requires
     mul-if3
     slice-read-if3
     same-length

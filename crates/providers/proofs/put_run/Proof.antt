@@ -17,7 +17,7 @@ same-length c = search needs
 
 returns-2 : tie.Need-returns-2
 returns-2 c =
-    let s = c .before .before .before .before .before .before in
+    let s = c .before .before .before .before .before .before .before in
     some-run (s .args .p) (s .args .from) (s .args .to) (search needs) (c .before .before .put .ensures)
 
 pub put-run-spec : {M : Type 1} → statement M

@@ -90,6 +90,9 @@ After-allowance = λ Inv μ. Lts.After-allowance (Reads'.Asked, Reads'.Learnt, R
 abbrev pub After-threshold : (Inv : InvT-loop) → (μ : MeasureT-loop) → Type 0
 After-threshold = λ Inv μ. Lts.After-threshold (Reads'.Asked, Reads'.Learnt, Reads''.Asked, Reads''.Learnt, Reads'4.Asked, Reads'4.Learnt, Reads.Asked, Reads.Learnt, Reads'3.Asked, Reads'3.Learnt) Reads'5.Pre Reads'5.Post Inv μ
 
+abbrev pub After-found : (Inv : InvT-loop) → (μ : MeasureT-loop) → Type 0
+After-found = λ Inv μ. Lts.After-found (Reads'.Asked, Reads'.Learnt, Reads''.Asked, Reads''.Learnt, Reads'4.Asked, Reads'4.Learnt, Reads.Asked, Reads.Learnt, Reads'3.Asked, Reads'3.Learnt) Reads'5.Pre Reads'5.Post Inv μ
+
 abbrev pub After-parts-at : (Inv : InvT-loop) → (μ : MeasureT-loop) → Type 0
 After-parts-at = λ Inv μ. Lts.After-parts-at (Reads'.Asked, Reads'.Learnt, Reads''.Asked, Reads''.Learnt, Reads'4.Asked, Reads'4.Learnt, Reads.Asked, Reads.Learnt, Reads'3.Asked, Reads'3.Learnt) Reads'5.Pre Reads'5.Post Inv μ
 
