@@ -1,8 +1,13 @@
 -- The loop over a point's transfers: each has the days from its own entry up to the next one's, the last up to the end. Assumes nothing.
 use Prim.Native.Nat.{ℕ, suc, _+_, _-_, _^_, _≤_, _<_, min, zero-le}
 use mathlib.Core.Path.{_≡_, refl, sym, ap, _∙_, subst}
+use mathlib.Core.Bool.{cond}
+use mathlib.Core.Logic.{⊎-elim}
 use mathlib.Core.List.{List, [], _∷_, map}
+use native.Mathlib.Nat.{eq-zero-or-pos}
 use native.Mathlib.Omega.{arith}
+use borrow.Author.Tests.{eq-eqb, ne-eqb}
+use lib.Dec.{eqb}
 use Rattle.rules.specs.declared.Transfer.{Transfer}
 use Rattle.rules.specs.Lists.{Ascending, latest}
 use Rattle.rules.specs.Settlement.{providerOn}
@@ -74,10 +79,10 @@ module _ (file : List ℕ) (start n : ℕ) where
 
   -- at the start no day is done
   module _ {count at : ℕ} (sound : SoundTransfers file count at start) where
-    pub runs-begin : RunsLeft (ownerBy (transfers file count at) start) count at
+    runs-begin : RunsLeft (ownerBy (transfers file count at) start) count at
     runs-begin = record { ascend = sound .ascend; owners = λ i a b. refl; ends = sound .ends }
 
-    pub none-reached : reached count at ≡ 0
+    none-reached : reached count at ≡ 0
     none-reached = first-zero n start (transfers file count at) (sound .first)
 
   -- a transfer that was read, and those after it
@@ -86,17 +91,17 @@ module _ (file : List ℕ) (start n : ℕ) where
   transfers-one left at h e = read-one (transferAt file) (λ at t. afterTransfer at) left at h e
 
   -- the days are done up to its entry, and all of them where no transfer is left
-  pub run-from : (left at : ℕ) {next from : ℕ} {t : Transfer} → 0 < left → (t ≡ transferAt file at) × (next ≡ afterTransfer at) → from ≡ min (t .day - start) n →
+  run-from : (left at : ℕ) {next from : ℕ} {t : Transfer} → 0 < left → (t ≡ transferAt file at) × (next ≡ afterTransfer at) → from ≡ min (t .day - start) n →
       from ≡ reached left at
   unfolding firstEntry
   run-from left at h e f = f ∙ sym (ap (firstEntry (λ t. t .day) n start) (transfers-one left at h e))
 
-  pub runs-end : (left at : ℕ) → left ≤ 0 → n ≡ reached left at
+  runs-end : (left at : ℕ) → left ≤ 0 → n ≡ reached left at
   unfolding records firstEntry
   runs-end left at h = ap (λ k. firstEntry (λ t. t .day) n start (transfers file k at)) {x = 0} {y = left} (omega arith)
 
   module _ {owner : ℕ → ℕ} {left at : ℕ} (u : RunsLeft owner left at) where
-    pub transfer-small : at < 2 ^ 32
+    transfer-small : at < 2 ^ 32
     transfer-small = omega (arith, u .ends, forward {next = λ at t. afterTransfer at} (λ at t. omega arith) at (transfers file left at))
 
     -- one turn
@@ -114,11 +119,11 @@ module _ (file : List ℕ) (start n : ℕ) where
       ascends = subst (λ ts. Ascending 0 (map (λ t. t .day) ts)) one (u .ascend)
 
       -- the cursor after the transfer
-      pub next-small : next < 2 ^ 32
+      next-small : next < 2 ^ 32
       next-small = omega (arith, past, u .ends, forward {next = λ at t. afterTransfer at} (λ at t. omega arith) next later)
 
       -- the transfer's run goes up to the entry of the next one
-      pub run-owner : Run owner n (reached left at) (reached (left - 1) next) (t .provider)
+      run-owner : Run owner n (reached left at) (reached (left - 1) next) (t .provider)
       run-owner =
           record {
             forwards = rw one (first-later n start t later ascends);
@@ -126,10 +131,45 @@ module _ (file : List ℕ) (start n : ℕ) where
             same = λ i a b. u .owners i a (omega (arith, first-within n start later)) ∙ (ap (λ ts. ownerBy ts start i) one ∙ owner-here n start t later ascends i (rw one at a) b);
           }
 
-      pub runs-turn : RunsLeft owner (left - 1) next
+      runs-turn : RunsLeft owner (left - 1) next
       runs-turn =
           record {
             ascend = ascending-lower (map (λ t. t .day) later) zero-le (ascends .1);
             owners = λ i a b. u .owners i (omega (arith, run-owner .forwards)) b ∙ (ap (λ ts. ownerBy ts start i) one ∙ owner-later n start t later ascends i a b);
             ends = omega (arith, past, u .ends);
           }
+
+  -- THE TRANSFER of the first day that is not done is read, and where the next one stands is known
+  pub record RunRead (owner : ℕ → ℕ) (left : ℕ) (t : Transfer) (next from : ℕ) : Type 0 where
+    pub at : ℕ
+    pub runs : RunsLeft owner left at
+    pub read : (t ≡ transferAt file at) × (next ≡ afterTransfer at)
+    pub here : from ≡ reached left at
+
+  module _ {count at : ℕ} (sound : SoundTransfers file count at start) where
+    pub first-small : at < 2 ^ 32
+    first-small = transfer-small (runs-begin sound)
+
+    pub read-begin : {t : Transfer} {next : ℕ} → (t ≡ transferAt file at) × (next ≡ afterTransfer at) → RunRead (ownerBy (transfers file count at) start) count t next 0
+    read-begin read = record { at = at; runs = runs-begin sound; read = read; here = sym (none-reached sound) }
+
+  pub read-end : {owner : ℕ → ℕ} {left : ℕ} {t : Transfer} {next from : ℕ} → RunRead owner left t next from → left ≤ 0 → from ≡ n
+  read-end {owner} {left} u h = u .here ∙ sym (runs-end left (u .at) h)
+
+  module _ {owner : ℕ → ℕ} {left : ℕ} {t : Transfer} {next from : ℕ} (u : RunRead owner left t next from) (some : 0 < left) where
+    pub next-read : next < 2 ^ 32
+    next-read = next-small (u .runs) some (u .read)
+
+    module _ {after to : ℕ} {later : Transfer} (read : (later ≡ transferAt file next) × (after ≡ afterTransfer next)) (g : to ≡ cond (eqb (left - 1) 0) n (min (later .day - start) n)) where
+      -- the run ends at the entry of the next one
+      to-is : to ≡ reached (left - 1) next
+      to-is =
+          ⊎-elim (λ z. g ∙ (ap (λ b. cond b n (min (later .day - start) n)) (eq-eqb (left - 1) 0 z) ∙ runs-end (left - 1) next (omega arith)))
+          (λ k. run-from (left - 1) next k read (g ∙ ap (λ b. cond b n (min (later .day - start) n)) (ne-eqb (left - 1) 0 (λ z. absurd (omega arith)))))
+          (eq-zero-or-pos (left - 1))
+
+      pub run-read : Run owner n from to (t .provider)
+      run-read = rw (u .here, to-is) (run-owner (u .runs) some (u .read))
+
+      pub read-turn : RunRead owner (left - 1) later after to
+      read-turn = record { at = next; runs = runs-turn (u .runs) some (u .read); read = read; here = to-is }
