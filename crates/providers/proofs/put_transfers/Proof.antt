@@ -10,6 +10,8 @@ use Rattle.providers.proofs.Days.{Putting, putting-begin, putting-turn,
 use Rattle.providers.proofs.put_transfers.Statement.{statement}
 use Rattle.providers.proofs.put_transfers.Tie as tie
 
+-- Within the loop it is not known where the first transfer stands, as nothing there needs it, but only where the second does: so it is said of
+-- each position that the second one stands after.
 abbrev Inv-loop : tie.InvT-loop
 Inv-loop file transfers start n list₀ count found₀ listed₀ own₀ next₀ left₀ from₀ list found listed own next left from = (at : ℕ) → next₀ .at ≡ afterTransfer at → Putting file transfers at start n list₀ count list listed left own (next .at) from
 
