@@ -1,4 +1,2 @@
 pub mod Parts
-pub mod Sheets
 pub mod Runs
-pub mod Taking

@@ -1,3 +1,3 @@
 pub mod Asks
 pub mod Made
-pub mod Whole
+pub mod Taking

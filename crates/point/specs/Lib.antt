@@ -1,2 +1,2 @@
 pub mod Standing
-pub mod Filled
+pub mod Spans

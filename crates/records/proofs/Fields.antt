@@ -1,6 +1,6 @@
 -- A record from what its fields are, on plain variables, where `cc` is quick: what the readers' proofs cite. Assumes nothing.
 use Prim.Native.Nat.{ℕ, _+_, _-_, _/_, _%_, _^_, _≤_}
-use mathlib.Core.Path.{_≡_, _∙_, ap}
+use mathlib.Core.Path.{_≡_, refl, _∙_, ap}
 use mathlib.Core.List.{List}
 use native.Mathlib.Omega.{arith}
 use Rattle.bits.specs.Took.{Took}
@@ -12,6 +12,8 @@ use Rattle.rules.specs.declared.Band.{Band}
 use Rattle.rules.specs.declared.PointHead.{PointHead}
 use Rattle.rules.specs.declared.Transfer.{Transfer}
 use Rattle.rules.specs.declared.Condition.{Condition}
+use Rattle.records.specs.declared.Groups.{Groups}
+use Rattle.records.specs.Conditions.{conditionOf}
 use Rattle.rules.specs.declared.MeterHead.{MeterHead}
 use Rattle.rules.specs.declared.Read.{Read}
 use Rattle.rules.specs.File.{headerAt, bandAt, pointHeadAt, transferAt, conditionAt, meterHeadAt, readAt, bandsAt, afterBand, transfersFrom, afterTransfer, afterCondition, readsFrom, afterRead}
@@ -75,19 +77,36 @@ transfer-taken {at = at} t1 c1 c2 =
     let s2 = cut-field (at + 16) t1 c2 (omega arith) (omega arith) in
     (cc, omega arith)
 
-pub condition-taken : {b : List ℕ} {at day vacant disconnected property roads schedule3 section29e rateable state a1 a2 : ℕ}
+-- a condition of its groups, and its groups as they are taken
+pub condition-cut : {g : Groups} {day vacant disconnected property roads schedule3 section29e : ℕ}
+    → CutOut (g .state) 16 32 day → CutOut (g .state) 1 31 vacant → CutOut (g .state) 1 30 disconnected → CutOut (g .state) 1 29 property → CutOut (g .state) 1 28 roads → CutOut (g .state) 14 14 schedule3 → CutOut (g .state) 14 0 section29e
+    → _≡_ {A = Condition} (record { day = day; vacant = vacant; disconnected = disconnected; property = property; roads = roads; schedule3 = schedule3; section29e = section29e; rateable = g .rateable }) (conditionOf g)
+unfolding conditionOf
+condition-cut c1 c2 c3 c4 c5 c6 c7 =
+    let s1 = c1 .is in
+    let s2 = c2 .is in
+    let s3 = c3 .is in
+    let s4 = c4 .is in
+    let s5 = c5 .is in
+    let s6 = c6 .is in
+    let s7 = c7 .is in
+    cc
+
+pub condition-taken : {b : List ℕ} {at state rateable a1 a2 : ℕ}
     → Took b at 48 state a1 → Took b a1 24 rateable a2
-    → CutOut state 16 32 day → CutOut state 1 31 vacant → CutOut state 1 30 disconnected → CutOut state 1 29 property → CutOut state 1 28 roads → CutOut state 14 14 schedule3 → CutOut state 14 0 section29e
-    → (_≡_ {A = Condition} (record { day = day; vacant = vacant; disconnected = disconnected; property = property; roads = roads; schedule3 = schedule3; section29e = section29e; rateable = rateable }) (conditionAt b at)) × (a2 ≡ afterCondition at)
-condition-taken {at = at} t1 t2 c1 c2 c3 c4 c5 c6 c7 =
-    let s1 = cut-field at t1 c1 (omega arith) (omega arith) in
-    let s2 = cut-field (at + 16) t1 c2 (omega arith) (omega arith) in
-    let s3 = cut-field (at + 17) t1 c3 (omega arith) (omega arith) in
-    let s4 = cut-field (at + 18) t1 c4 (omega arith) (omega arith) in
-    let s5 = cut-field (at + 19) t1 c5 (omega arith) (omega arith) in
-    let s6 = cut-field (at + 20) t1 c6 (omega arith) (omega arith) in
-    let s7 = cut-field (at + 34) t1 c7 (omega arith) (omega arith) in
-    (cc, omega arith)
+    → (conditionOf (record { state = state; rateable = rateable }) ≡ conditionAt b at) × (a2 ≡ afterCondition at)
+unfolding conditionOf
+condition-taken {b} {at} {state} {rateable} {a1} t1 t2 =
+    let cut : (width below : ℕ) → CutOut state width below (state / 2 ^ below % 2 ^ width) = λ width below. record { is = refl } in
+    let s1 = cut-field at t1 (cut 16 32) (omega arith) (omega arith) in
+    let s2 = cut-field (at + 16) t1 (cut 1 31) (omega arith) (omega arith) in
+    let s3 = cut-field (at + 17) t1 (cut 1 30) (omega arith) (omega arith) in
+    let s4 = cut-field (at + 18) t1 (cut 1 29) (omega arith) (omega arith) in
+    let s5 = cut-field (at + 19) t1 (cut 1 28) (omega arith) (omega arith) in
+    let s6 = cut-field (at + 20) t1 (cut 14 14) (omega arith) (omega arith) in
+    let s7 = cut-field (at + 34) t1 (cut 14 0) (omega arith) (omega arith) in
+    let s8 : rateable ≡ field b (at + 48) 24 = t2 .is ∙ ap (λ p. field b p 24) (omega (arith, t1 .after)) in
+    (cc, omega (arith, t1 .after, t2 .after))
 
 pub meter-taken : {b : List ℕ} {at size share returned digits installed removed reads details a1 a2 : ℕ}
     → Took b at 16 size a1 → Took b a1 56 details a2

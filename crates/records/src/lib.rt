@@ -6,6 +6,7 @@ ghost use Rattle.rules.specs.File.{headerAt, bandAt, pointHeadAt, transferAt, c
 ghost use Rattle.rules.specs.File.{bandsAt, afterBand, transfersFrom, afterTransfer, afterCondition, readsFrom, afterRead};
 ghost use Rattle.rules.specs.File.{meters, afterMeters, pointAt, afterPoint};
 ghost use Rattle.records.specs.Lists.{afterLists};
+ghost use Rattle.records.specs.Conditions.{conditionOf};
 use bits::Cursor;
 use bits::cut;
 use rules::Band;
@@ -38,6 +39,18 @@ pub struct TakenTransfer {
 
 pub struct TakenCondition {
     pub value: Condition,
+    pub next: Cursor,
+}
+
+// A condition by its two groups of fields, as they stand in the file: day, flags and discounts; rateable value. Two numbers hold what a condition
+// has in eight.
+pub struct Groups {
+    pub state: u64,
+    pub rateable: u64,
+}
+
+pub struct TakenGroups {
+    pub value: Groups,
     pub next: Cursor,
 }
 
@@ -136,26 +149,54 @@ pub fn transfer(file: &[u8], c: Cursor) -> TakenTransfer
     }
 }
 
-pub fn condition(file: &[u8], c: Cursor) -> TakenCondition
+// The groups of the condition at a cursor.
+pub fn condition_groups(file: &[u8], c: Cursor) -> TakenGroups
     requires { ⌜ c .at < 2 ^ 32 ⌝ }
-    ensures { λ r. ⌜ (r .value ≡ conditionAt (now (file .entry)) (c .at)) × (r .next .at ≡ afterCondition (c .at)) ⌝ }
+    ensures { λ r. ⌜ (conditionOf (r .value) ≡ conditionAt (now (file .entry)) (c .at)) × (r .next .at ≡ afterCondition (c .at)) ⌝ }
 {
     let state = c.take(file, 48);
     let rateable = state.next.take(file, 24);
     let next = rateable.next;
-    TakenCondition {
-        value: Condition {
-            day: cut(state.value, 16, 32),
-            vacant: cut(state.value, 1, 31),
-            disconnected: cut(state.value, 1, 30),
-            property: cut(state.value, 1, 29),
-            roads: cut(state.value, 1, 28),
-            schedule3: cut(state.value, 14, 14),
-            section29e: cut(state.value, 14, 0),
+    TakenGroups {
+        value: Groups {
+            state: state.value,
             rateable: rateable.value,
         },
         next,
     }
+}
+
+// The day of a condition.
+pub fn condition_day(g: Groups) -> u64
+    ensures { λ r. ⌜ r ≡ conditionOf g .day ⌝ }
+{
+    cut(g.state, 16, 32)
+}
+
+// The condition of its groups.
+pub fn condition_of(g: Groups) -> Condition
+    ensures { λ r. ⌜ r ≡ conditionOf g ⌝ }
+{
+    Condition {
+        day: cut(g.state, 16, 32),
+        vacant: cut(g.state, 1, 31),
+        disconnected: cut(g.state, 1, 30),
+        property: cut(g.state, 1, 29),
+        roads: cut(g.state, 1, 28),
+        schedule3: cut(g.state, 14, 14),
+        section29e: cut(g.state, 14, 0),
+        rateable: g.rateable,
+    }
+}
+
+pub fn condition(file: &[u8], c: Cursor) -> TakenCondition
+    requires { ⌜ c .at < 2 ^ 32 ⌝ }
+    ensures { λ r. ⌜ (r .value ≡ conditionAt (now (file .entry)) (c .at)) × (r .next .at ≡ afterCondition (c .at)) ⌝ }
+{
+    let taken = condition_groups(file, c);
+    let value = condition_of(taken.value);
+    let next = taken.next;
+    TakenCondition { value, next }
 }
 
 // A meter before its reads.

@@ -2,4 +2,3 @@ pub mod Parts
 pub mod Point
 pub mod Bounds
 pub mod Rows
-pub mod Filling

@@ -1,27 +1,23 @@
--- `condition` meets its contract: the record is what is cut out of its groups, and the positions add up. Assumes nothing.
+use mathlib.Core.Path.{_∙_}
 use borrow.Author.Needs.{needs}
-use Rattle.records.proofs.Fields.{condition-taken}
 use Rattle.records.proofs.condition.Statement.{statement}
 use Rattle.records.proofs.condition.Tie as tie
+use Rattle.records.proofs.condition.Reads as reads
+use Rattle.records.proofs.condition.Lts as lts
+use Rattle.records.proofs.condition_groups.Reads as condition-groups-reads
+use Rattle.records.proofs.condition_of.Reads as condition-of-reads
 
+-- src/lib.rt:196:9
+condition-groups-requires : tie.Need-condition-groups-requires
+condition-groups-requires c κs = search needs
+
+-- src/lib.rt:197:9
+condition-of-requires : tie.Need-condition-of-requires
+condition-of-requires c κs = search needs
+
+-- src/lib.rt:192:1
 returns : tie.Need-returns
-returns c =
-    let groups = c .before .before .before .before .before .before .before .before in
-    condition-taken
-    (groups .before .take .ensures) (groups .take2 .ensures)
-    (c .before .before .before .before .before .before .cut .ensures) (c .before .before .before .before .before .cut2 .ensures) (c .before .before .before .before .cut3 .ensures) (c .before .before .before .cut4 .ensures) (c .before .before .cut5 .ensures) (c .before .cut6 .ensures) (c .cut7 .ensures)
+returns c = (c .before .condition-of .ensures ∙ c .before .before .condition-groups .ensures .0, c .before .before .condition-groups .ensures .1)
 
 pub condition-spec : {M : Type 1} → statement M
-condition-spec =
-    tie.close
-    (tie.spec
-    (λ c κs. search needs)
-    (λ c κs. search needs)
-    (λ c κs. search needs)
-    (λ c κs. search needs)
-    (λ c κs. search needs)
-    (λ c κs. search needs)
-    (λ c κs. search needs)
-    (λ c κs. search needs)
-    (λ c κs. search needs)
-    returns)
+condition-spec = tie.close (tie.spec condition-groups-requires condition-of-requires returns)
