@@ -1,5 +1,5 @@
 // Text and numbers. A writer (`put_..`) puts its text into a lent space from a position on, and hands back the position after it. It asks that the
-// space holds the text.
+// space holds the text. A length (`.._length`) has a limit, by which sums of lengths fit a usize.
 ghost use mathlib.Core.List.{_++_};
 ghost use Prim.Native.Nat.{_+_, _≤_, _<_};
 ghost use lib.ListN.{length};
