@@ -1,5 +1,4 @@
 -- No report is longer than 26,567 bytes: each of its numbers is below 2 to the power 64. Assumes nothing.
-use mathlib.Core.Path.{refl}
 use mathlib.Core.List.{List, [], _∷_}
 use Prim.Native.Nat.{ℕ, zero, suc, _*_, _^_, _≤_, _<_}
 use native.Mathlib.Numerals.{add-one}
@@ -10,46 +9,23 @@ use denote.Array.{each}
 use denote.Shadow.{shadow}
 use denote.Struct.Declared.{row}
 use Rattle.rules.specs.declared.Row.{Row}
-use Rattle.rules.specs.Settlement.{amount}
-use Rattle.rules.specs.Text.{decimal}
-use Rattle.rules.specs.Report.{totalCharge, block, blocks, reportOf}
-use Rattle.rules.specs.Fits.{Fits, AllFit}
+use Rattle.rules.specs.Report.{blocks, reportOf}
+use Rattle.rules.specs.Fits.{AllFit}
 use Rattle.rules.proofs.Row.{the-type}
-use Rattle.rules.proofs.Rows.{amount-le}
-use Rattle.report.specs.Written.{Long}
-use Rattle.report.proofs.Decimal.{length-most}
-use Rattle.report.proofs.Sizes.{name-most, heading-long, lines-long, block-long, report-long}
+use Rattle.text.proofs.Limits.{itself, number-long}
+use Rattle.block.proofs.Sizes.{block-most}
+use Rattle.report.proofs.Sizes.{name-most, heading-long, report-long}
 use Rattle.report.proofs.Rows.{rowAt, more-long, fits-at}
 
 -- rows in an array, as the machine holds them in the values us
 abbrev pub Held : List Row → List Val → Type 0
 Held rows us = shadow (each Row (row the-type .own) rows us)
 
--- a text within a limit, by its own length
-itself : {text : List ℕ} {limit : ℕ} → length text ≤ limit → Long text limit (length text)
-itself h = record { is = refl; most = h }
-
 provider-held : (rows : List Row) (us : List Val) (k : ℕ) → Held rows us → k < length rows → rowAt rows k .provider < 2 ^ 64
 provider-held [] us k h g = absurd (omega arith)
 provider-held (r ∷ rs) [] k h g = absurd h
 provider-held (r ∷ rs) (u ∷ us) zero h g = omega arith
 provider-held (r ∷ rs) (u ∷ us) (suc k) h g = provider-held rs us k (h .1) (omega arith)
-
-number-long : (n : ℕ) → n < 2 ^ 64 → Long (decimal n) 20 (length (decimal n))
-number-long n h = itself (length-most n h)
-
-module _ (r : Row) (fits : Fits r) where
-  charge-long : (i : ℕ) → Long (decimal (amount (r .charges) i)) 20 (length (decimal (amount (r .charges) i)))
-  unfolding totalCharge
-  charge-long i = number-long (amount (r .charges) i) (omega (arith, fits .charges, amount-le (r .charges) i))
-
-  block-most : r .provider < 2 ^ 64 → length (block r) ≤ 414
-  block-most h =
-      let days = number-long (r .days .0) (fits .days) in
-      let litres = number-long (r .litres .0) (fits .litres) in
-      let four = lines-long (r .days .0) (r .litres .0) (r .charges) days litres (charge-long 0) (charge-long 1) (charge-long 2) (charge-long 3) in
-      let long = block-long r (number-long (r .provider) h) (number-long (totalCharge r) (fits .charges)) litres four in
-      omega (arith, long .is, long .most)
 
 module _ (rows : List Row) (us : List Val) (held : Held rows us) (n : ℕ) (all : AllFit (take n rows)) (h : n ≤ length rows) where
   blocks-most : (k : ℕ) → k ≤ n → length (blocks (take k rows)) ≤ 414 * k

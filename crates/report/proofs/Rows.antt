@@ -1,20 +1,16 @@
 -- The blocks of the first rows, one row more at a time, and what fits of them. Assumes nothing.
 use mathlib.Core.Path.{_≡_, refl, sym, ap, _∙_}
-use mathlib.Core.List.{List, [], _∷_, _++_, append-assoc, append-nil, map}
+use mathlib.Core.List.{List, [], _∷_, _++_, append-assoc, append-nil}
 use Prim.Native.Nat.{ℕ, zero, suc, _+_, _*_, _≤_, _<_}
 use native.Mathlib.Numerals.{add-one}
 use native.Mathlib.Omega.{arith}
-use lib.ListN.{length, take, drop, getD, length-append, length-map, take-append-drop}
+use lib.ListN.{length, take, drop, getD, length-append, take-append-drop}
 use lib.Seq.{take-suc, take-take}
 use Rattle.rules.specs.declared.Row.{Row}
 use Rattle.rules.specs.Settlement.{days, litres}
 use Rattle.rules.specs.Report.{block, blocks}
 use Rattle.rules.specs.Fits.{Fits, AllFit}
-use Rattle.report.specs.Written.{Long}
-
--- of an array that is a field, what is known is the length of what its elements are made into
-pub length-mapped : {A B : Type 0} (f : A → B) (l : List A) (n : ℕ) → length (map f l) ≡ n → length l ≡ n
-length-mapped f l n h = sym (length-map l f) ∙ h
+use Rattle.text.specs.Written.{Long}
 
 -- the row at an index; past the last it has nothing
 abbrev noRow : Row

@@ -5,7 +5,7 @@ use native.Mathlib.Omega.{arith}
 use borrow.Author.Needs.{needs}
 use lib.ListN.{length, take}
 use Rattle.rules.specs.Report.{blocks}
-use Rattle.report.specs.Written.{Long}
+use Rattle.text.specs.Written.{Long}
 use Rattle.report.proofs.Rows.{more-long, fits-at}
 use Rattle.report.proofs.blocks_length.Statement.{statement}
 use Rattle.report.proofs.blocks_length.Tie as tie

@@ -5,8 +5,8 @@ use native.Mathlib.Omega.{arith}
 use borrow.Author.Needs.{needs}
 use lib.ListN.{length, take}
 use Rattle.rules.specs.Report.{blocks}
-use Rattle.report.specs.Written.{Put}
-use Rattle.report.proofs.Writes.{put-none, put-then, put-as}
+use Rattle.text.specs.Written.{Put}
+use Rattle.text.proofs.Puts.{put-none, put-then, put-as}
 use Rattle.report.proofs.Rows.{blocks-more, block-within, fits-at}
 use Rattle.report.proofs.put_blocks.Statement.{statement}
 use Rattle.report.proofs.put_blocks.Tie as tie

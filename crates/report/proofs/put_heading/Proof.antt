@@ -4,7 +4,7 @@ use borrow.Author.Needs.{needs}
 use lib.ListN.{length-append}
 use Rattle.rules.specs.Text.{text}
 use Rattle.rules.specs.Report.{field, heading}
-use Rattle.report.proofs.Writes.{put-then}
+use Rattle.text.proofs.Puts.{put-then}
 use Rattle.report.proofs.put_heading.Statement.{statement}
 use Rattle.report.proofs.put_heading.Tie as tie
 

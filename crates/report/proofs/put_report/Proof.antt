@@ -3,7 +3,7 @@ use native.Mathlib.Omega.{arith}
 use borrow.Author.Needs.{needs}
 use lib.ListN.{length-append}
 use Rattle.rules.specs.Report.{reportOf}
-use Rattle.report.proofs.Writes.{put-then}
+use Rattle.text.proofs.Puts.{put-then}
 use Rattle.report.proofs.put_report.Statement.{statement}
 use Rattle.report.proofs.put_report.Tie as tie
 

@@ -4,7 +4,7 @@ use native.Mathlib.Omega.{arith}
 use borrow.Author.Needs.{needs}
 use lib.ListN.{length}
 use Rattle.rules.specs.Text.{text}
-use Rattle.report.proofs.Writes.{put-as}
+use Rattle.text.proofs.Puts.{put-as}
 use Rattle.report.proofs.Sizes.{water, sewerage}
 use Rattle.report.proofs.put_service.Statement.{statement}
 use Rattle.report.proofs.put_service.Tie as tie

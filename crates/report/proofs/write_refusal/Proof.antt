@@ -4,8 +4,8 @@ use borrow.Author.Needs.{needs}
 use lib.ListN.{length-append}
 use Rattle.rules.specs.Text.{text}
 use Rattle.rules.specs.Report.{field, refused}
-use Rattle.report.specs.Written.{single}
-use Rattle.report.proofs.Decimal.{length-most}
+use Rattle.text.specs.Written.{single}
+use Rattle.text.proofs.Decimal.{length-most}
 use Rattle.report.proofs.write_refusal.Statement.{statement}
 use Rattle.report.proofs.write_refusal.Tie as tie
 
