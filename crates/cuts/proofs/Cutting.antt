@@ -1,5 +1,5 @@
 -- The loop that cuts the days into spans. Assumes nothing.
-use Prim.Native.Nat.{ℕ, zero, suc, _+_, _-_, _*_, _≤_, _<_, min, zero-le}
+use Prim.Native.Nat.{ℕ, zero, suc, _+_, _*_, _≤_, _<_, min, zero-le}
 use mathlib.Core.Path.{_≡_, refl, sym, ap, _∙_, subst}
 use mathlib.Core.List.{List}
 use native.Mathlib.Decide.{decLt}
@@ -8,7 +8,7 @@ use lib.ListN.{length}
 use Rattle.rules.specs.declared.Condition.{Condition}
 use Rattle.records.specs.declared.Groups.{Groups}
 use Rattle.records.specs.Conditions.{conditionOf}
-use Rattle.spans.specs.Spans.{numberIn, beginIn, endIn, Cut, Sum, placeOf, litresSum, annualSum, allowanceSum, thresholdSum, sumIn, SpanSet}
+use Rattle.spans.specs.Spans.{numberIn, beginIn, endIn, Sum, placeOf, litresSum, annualSum, allowanceSum, thresholdSum, sumIn, SpanSet}
 use Rattle.cuts.specs.declared.Owning.{Owning}
 use Rattle.cuts.specs.declared.Holding.{Holding}
 use Rattle.cuts.specs.Cuts.{Owns, Held, spanCondition, CutBy}

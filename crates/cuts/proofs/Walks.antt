@@ -10,14 +10,13 @@ use borrow.Author.Tests.{eq-eqb, ne-eqb}
 use lib.Dec.{eqb}
 use Rattle.rules.specs.declared.Transfer.{Transfer}
 use Rattle.rules.specs.declared.Condition.{Condition}
-use Rattle.rules.specs.Lists.{Ascending, latest}
-use Rattle.rules.specs.File.{records, after, transferAt, afterTransfer, transfers, conditionAt, afterCondition, conditions}
+use Rattle.rules.specs.Lists.{latest}
+use Rattle.rules.specs.File.{records, transferAt, afterTransfer, transfers, conditionAt, afterCondition, conditions}
 use Rattle.rules.specs.Charges.{noCondition}
 use Rattle.rules.specs.Good.{FirstBy}
 use Rattle.rules.proofs.Lists.{ascending-lower, latest-here, latest-ahead}
 use Rattle.records.proofs.Positions.{forward}
 use Rattle.records.proofs.Ahead.{read-one, read-past}
-use Rattle.records.specs.declared.Groups.{Groups}
 use Rattle.records.specs.Conditions.{conditionOf}
 use Rattle.charged.specs.Charged.{firstEntry}
 use Rattle.providers.specs.Runs.{SoundTransfers}

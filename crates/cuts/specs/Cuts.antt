@@ -1,15 +1,13 @@
 -- A point's charged days, cut at its transfers and conditions.
-use Prim.Native.Nat.{ℕ, _+_, _-_, _^_, _≤_, _<_}
+use Prim.Native.Nat.{ℕ, _+_, _^_, _≤_, _<_}
 use mathlib.Core.Path.{_≡_}
 use mathlib.Core.List.{List, map}
 use lib.ListN.{length}
-use Rattle.rules.specs.declared.Transfer.{Transfer}
 use Rattle.rules.specs.declared.Condition.{Condition}
 use Rattle.rules.specs.Lists.{Ascending, latest}
 use Rattle.rules.specs.File.{records, after, transferAt, afterTransfer, transfers, conditionAt, afterCondition, conditions, afterConditions}
 use Rattle.rules.specs.Charges.{noCondition}
 use Rattle.charged.specs.Charged.{firstEntry}
-use Rattle.records.specs.declared.Groups.{Groups}
 use Rattle.records.specs.Conditions.{conditionOf}
 use Rattle.spans.specs.Spans.{numberIn, beginIn, endIn, Cut, Sum, sumIn}
 use Rattle.cuts.specs.declared.Owning.{Owning}

@@ -2,7 +2,6 @@
 use Prim.Native.Nat.{ℕ, _+_, _-_, _*_, _^_, _≤_, _<_}
 use mathlib.Core.Path.{_≡_}
 use mathlib.Core.List.{List, [], map}
-use lib.ListN.{length}
 use Rattle.rules.specs.declared.Band.{Band}
 use Rattle.rules.specs.declared.Read.{Read}
 use Rattle.rules.specs.declared.MeterHead.{MeterHead}

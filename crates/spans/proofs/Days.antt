@@ -1,8 +1,7 @@
 -- Days added to spans: what some days have is cut at the spans' ends, and each piece is added to the span that holds it. Every law is over any
 -- function of days. Assumes nothing.
-use Prim.Native.Nat.{ℕ, zero, suc, _+_, _-_, _*_, _^_, _≤_, _<_, min, max, zero-le}
+use Prim.Native.Nat.{ℕ, zero, suc, _+_, _-_, _*_, _≤_, _<_, min, max, zero-le}
 use mathlib.Core.Path.{_≡_, refl, sym, ap, _∙_, subst}
-use mathlib.Core.Bool.{Bool, true, false, _&&_}
 use mathlib.Core.Logic.{_⊎_, inl, inr}
 use mathlib.Core.List.{List}
 use native.Mathlib.Nat.{le-refl, mul-zero}
@@ -10,12 +9,12 @@ use native.Mathlib.Decide.{decLt}
 use native.Mathlib.Omega.{arith}
 use borrow.Author.Tests.{eq-eqb, ne-eqb, le-leb, lt-leb, lt-ltb, le-ltb}
 use lib.ListN.{length}
-use lib.Dec.{leb, ltb, eqb}
+use lib.Dec.{eqb}
 use Rattle.rules.specs.Sums.{only, overDays}
 use Rattle.rules.proofs.Lists.{three}
 use Rattle.rules.proofs.Shares.{days-eq, days-add, days-none}
 use Rattle.rules.proofs.Sums.{days-le, days-split}
-use Rattle.spans.specs.Spans.{numberIn, endIn, beginIn, Cut, Reached, Holds, Sum, sumIn, SumsAdded, Kept, RoomAt, during, overSpan, Grown, Room}
+use Rattle.spans.specs.Spans.{endIn, beginIn, Cut, Reached, Holds, Sum, sumIn, SumsAdded, Kept, RoomAt, during, overSpan, Grown, Room}
 
 -- the same on each of some days
 pub days-each : (x from n : ℕ) → x * n ≡ overDays from n (λ i. x)
@@ -237,14 +236,6 @@ grown-on {before} cut e u =
 pub room-on : {spans : List ℕ} {n m : ℕ} {f g : Sum → ℕ → ℕ} → Cut spans n m → ((q : Sum) (i : ℕ) → i < n → f q i ≡ g q i) → Room spans m f → Room spans m g
 room-on {spans} cut e r =
     record { fits = λ q s h. omega (arith, r .fits q s h, over-eq spans s (λ i k l. e q i (omega (arith, span-within cut s h)))) }
-
--- one after the other
-pub grown-both : {a b c : List ℕ} {m : ℕ} {f g : Sum → ℕ → ℕ} → Grown a b m f → Grown b c m g → Grown a c m (λ q i. f q i + g q i)
-grown-both {a} {f = f} {g} u v =
-    record {
-      kept = kept-both (u .kept) (v .kept);
-      sums = λ q s h. omega (arith, v .sums q s h, u .sums q s h, over-same (u .kept) s (g q), over-add a s (f q) (g q));
-    }
 
 -- THE REST: in a loop over records that add, what the spans have and what is still to come are what they had and the whole
 pub record Rest (before after : List ℕ) (m : ℕ) (rest whole : Sum → ℕ → ℕ) : Type 0 where

@@ -1,19 +1,19 @@
 -- The numbers of spans, by what is written there. Assumes nothing.
 use Prim.Native.Nat.{ℕ, _+_, _*_, _≤_, _<_}
-use mathlib.Core.Path.{_≡_, refl, sym, ap, _∙_}
+use mathlib.Core.Path.{_≡_, refl, ap, _∙_}
 use mathlib.Core.Bool.{Bool, true, false}
-use mathlib.Core.Logic.{_⊎_, inl, inr, ⊎-elim}
+use mathlib.Core.Logic.{_⊎_, inl, inr}
 use mathlib.Core.List.{List}
 use native.Mathlib.Omega.{arith}
 use borrow.Author.Tests.{eq-eqb, ne-eqb}
-use lib.ListN.{length, getD, set, length-set}
+use lib.ListN.{length, set, length-set}
 use lib.Seq.{getD-set-same, getD-set-other}
 use lib.Dec.{eqb}
 use Rattle.rules.specs.Sums.{only}
 use Rattle.rules.proofs.Lists.{three}
 use Rattle.records.specs.declared.Groups.{Groups}
 use Rattle.spans.specs.declared.Figures.{Figures}
-use Rattle.spans.specs.Spans.{numberIn, Sum, litresSum, annualSum, allowanceSum, thresholdSum, placeOf, sumIn, NumberSet, SpanSet, SumsAdded, litresOf, figureOf}
+use Rattle.spans.specs.Spans.{numberIn, Sum, litresSum, annualSum, allowanceSum, thresholdSum, sumIn, NumberSet, SpanSet, SumsAdded, litresOf, figureOf}
 
 -- A NUMBER THAT IS SET: two numbers of spans stand at different indices
 pub number-set : (l : List ℕ) (s k v : ℕ) → k < 8 → s * 8 + 8 ≤ length l → NumberSet l (set l (s * 8 + k) v) s k v
