@@ -56,10 +56,11 @@ module _ {A : Type 0} (here : ℕ → A) (next : ℕ → A → ℕ) (day : A →
   unfolding firstEntry
   one-left left at h e = sym (ap (firstEntry day n start) (read-one here next left at h (e, refl)))
 
-  end-is : (left at : ℕ) {x : A} {end : ℕ} → x ≡ here at → end ≡ cond (eqb left 0) n (min (day x - start) n) → end ≡ firstEntry day n start (records here next left at)
-  end-is left at {x} e g =
-      ⊎-elim (λ z. g ∙ (ap (λ b. cond b n (min (day x - start) n)) (eq-eqb left 0 z) ∙ none-left left at z))
-      (λ h. g ∙ (ap (λ b. cond b n (min (day x - start) n)) (ne-eqb left 0 (λ z. absurd (omega arith))) ∙ one-left left at h e))
+  end-is : (left at : ℕ) {x : A} {d end : ℕ} → x ≡ here at → d ≡ day x → end ≡ cond (eqb left 0) n (min (d - start) n) → end ≡ firstEntry day n start (records here next left at)
+  end-is left at {x} e f g =
+      let k = g ∙ ap (λ d. cond (eqb left 0) n (min (d - start) n)) f in
+      ⊎-elim (λ z. k ∙ (ap (λ b. cond b n (min (day x - start) n)) (eq-eqb left 0 z) ∙ none-left left at z))
+      (λ h. k ∙ (ap (λ b. cond b n (min (day x - start) n)) (ne-eqb left 0 (λ z. absurd (omega arith))) ∙ one-left left at h e))
       (eq-zero-or-pos left)
 
 module _ {A B : Type 0} {here : ℕ → A} {next : ℕ → A → ℕ} {day : A → ℕ} {value : A → B} {start n : ℕ} where
@@ -87,14 +88,14 @@ module _ {A B : Type 0} {here : ℕ → A} {next : ℕ → A → ℕ} {day : A �
       pub reading-small : past < 2 ^ 32
       reading-small = omega (arith, u .within, read-past here next left (u .at) h (u .read), forward step past (records here next (left - 1) past))
 
-    pub reading-next : 0 < left → end ≤ i → {y : A} {later end′ : ℕ} → (y ≡ here past) × (later ≡ next past (here past)) → end′ ≡ cond (eqb (left - 1) 0) n (min (day y - start) n) →
+    pub reading-next : 0 < left → end ≤ i → {y : A} {later d end′ : ℕ} → (y ≡ here past) × (later ≡ next past (here past)) → d ≡ day y → end′ ≡ cond (eqb (left - 1) 0) n (min (d - start) n) →
         Reading here next day value start n all i (value x) y later (left - 1) end′
-    reading-next h a read g =
+    reading-next h a read f g =
         record {
           at = past;
           read = read;
           within = omega (arith, u .within, read-past here next left (u .at) h (u .read));
-          walk = walk-next day value start n x (records here next (left - 1) past) (subst (λ xs. Walk day value start n all i now xs end) (read-one here next left (u .at) h (u .read)) (u .walk)) a (end-is here next day start n (left - 1) past (read .0) g);
+          walk = walk-next day value start n x (records here next (left - 1) past) (subst (λ xs. Walk day value start n all i now xs end) (read-one here next left (u .at) h (u .read)) (u .walk)) a (end-is here next day start n (left - 1) past (read .0) f g);
         }
 
 -- THE FIRST
@@ -130,7 +131,7 @@ module _ {file : List ℕ} {count at start : ℕ} (n : ℕ) (sound : SoundTransf
 
     pub reading-first : {y : Transfer} {later end : ℕ} → (y ≡ transferAt file past) × (later ≡ afterTransfer past) → end ≡ cond (eqb (count - 1) 0) n (min (y .day - start) n) →
         Reading (transferAt file) (λ at t. afterTransfer at) (λ t. t .day) (λ t. t .provider) start n (ownerOf file count at start) 0 (t .provider) y later (count - 1) end
-    reading-first = reading-next before-first some-transfers zero-le
+    reading-first read = reading-next before-first some-transfers zero-le read refl
 
 pub no-groups : conditionOf (record { state = 0; rateable = 0 }) ≡ noCondition
 unfolding conditionOf noCondition
@@ -140,12 +141,12 @@ module _ {file : List ℕ} {count at : ℕ} (start n : ℕ) (sound : SoundCondit
   pub conditions-small : at < 2 ^ 32
   conditions-small = omega (arith, sound .ends, forward {next = λ at c. afterCondition at} (λ at c. omega arith) at (conditions file count at))
 
-  pub reading-none : {c : Condition} {past end : ℕ} → (c ≡ conditionAt file at) × (past ≡ afterCondition at) → end ≡ cond (eqb count 0) n (min (c .day - start) n) →
+  pub reading-none : {c : Condition} {past d end : ℕ} → (c ≡ conditionAt file at) × (past ≡ afterCondition at) → d ≡ c .day → end ≡ cond (eqb count 0) n (min (d - start) n) →
       Reading (conditionAt file) (λ at c. afterCondition at) (λ c. c .day) (λ c. c) start n (conditionIn file count at start) 0 (conditionOf (record { state = 0; rateable = 0 })) c past count end
-  reading-none read g =
+  reading-none read f g =
       record {
         at = at;
         read = read;
         within = sound .ends;
-        walk = record { ascend = sound .ascend; same = λ j a b. ap (λ c. latest (λ c. c .day) (λ c. c) c (conditions file count at) (start + j)) (sym no-groups); ends = end-is (conditionAt file) (λ at c. afterCondition at) (λ c. c .day) start n count at (read .0) g };
+        walk = record { ascend = sound .ascend; same = λ j a b. ap (λ c. latest (λ c. c .day) (λ c. c) c (conditions file count at) (start + j)) (sym no-groups); ends = end-is (conditionAt file) (λ at c. afterCondition at) (λ c. c .day) start n count at (read .0) f g };
       }

@@ -15,12 +15,13 @@ use Rattle.rules.specs.Litres.{meterLitres}
 use Rattle.rules.specs.Charges.{bandFor}
 use Rattle.rules.specs.Good.{GoodBand, GoodMeter}
 use Rattle.rules.proofs.Shares.{days-eq}
+use Rattle.rules.proofs.Sums.{days-each}
 use Rattle.spans.specs.declared.Figures.{Figures}
 use Rattle.spans.specs.Spans.{endIn, beginIn, Cut, Sum, litresSum, annualSum, allowanceSum, thresholdSum, sumIn, Kept, figureOf, during, overSpan, Grown, Room}
-use Rattle.spans.proofs.Days.{during-in, during-entry, days-each, span-within, begin-same, end-same, over-same, cut-same, kept-all, kept-both, grown-on, room-on, over-eq, over-le, over-add, over-none}
+use Rattle.spans.proofs.Days.{during-in, during-zero, during-entry, span-within, begin-same, end-same, over-same, cut-same, kept-all, kept-both, grown-on, room-on, over-eq, over-le, over-add, over-none, over-is}
 use Rattle.meters.specs.Meters.{meterOf, weighed, Weights, Sums, meterFigure, sumWith, GrownWith, RoomWith, SumsClear, MetersIn}
-use Rattle.meters.proofs.Advances.{during-zero, litresAt}
-use Rattle.meters.proofs.Bounds.{Figure, annual-figure, allowance-figure, threshold-figure, band-most, meters-most, over-is}
+use Rattle.meters.proofs.Advances.{litresAt}
+use Rattle.meters.proofs.Bounds.{Figure, annual-figure, allowance-figure, threshold-figure, band-most, meters-most}
 
 -- SUMS BESIDES
 module _ (every : Figures) {before after : List ℕ} (kept : Kept before after) where

@@ -1,9 +1,6 @@
 -- `cuts::next_condition` meets its contract: what is ahead comes into force, and the next record is read. Assumes nothing.
 use Rattle.cuts.proofs.Walks.{reading-next}
-use mathlib.Core.Path.{refl, ap, _∙_}
-use mathlib.Core.Bool.{cond}
-use lib.Dec.{eqb}
-use Prim.Native.Nat.{_-_, min}
+use mathlib.Core.Path.{refl}
 use borrow.Author.Needs.{needs}
 use Rattle.cuts.proofs.next_condition.Statement.{statement}
 use Rattle.cuts.proofs.next_condition.Tie as tie
@@ -21,7 +18,7 @@ run-end-requires : tie.Need-run-end-requires
 run-end-requires c κs = search needs
 
 returns : tie.Need-returns
-returns c = (λ on i u h. reading-next u (c .before .before .before .before .before .before .before .before .pre .0) h (c .before .before .before .before .before .before .condition-groups .ensures) (c .run-end .ensures ∙ ap (λ d. cond (eqb (c .before .before .before .before .before .before .before .before .args .h .left - 1) 0) (c .before .before .before .before .before .before .before .before .args .n) (min (d - c .before .before .before .before .before .before .before .before .args .start) (c .before .before .before .before .before .before .before .before .args .n))) (c .before .condition-day .ensures)), refl)
+returns c = (λ on i u h. reading-next u (c .before .before .before .before .before .before .before .before .pre .0) h (c .before .before .before .before .before .before .condition-groups .ensures) (c .before .condition-day .ensures) (c .run-end .ensures), refl)
 
 pub next-condition-spec : {M : Type 1} → statement M
 next-condition-spec =

@@ -15,7 +15,7 @@ run-end-requires : tie.Need-run-end-requires
 run-end-requires c κs = search needs
 
 returns : tie.Need-returns
-returns c = (λ owner i u h. reading-next u (c .before .before .before .before .before .before .pre .0) h (c .before .before .before .before .transfer .ensures) (c .run-end .ensures), refl)
+returns c = (λ owner i u h. reading-next u (c .before .before .before .before .before .before .pre .0) h (c .before .before .before .before .transfer .ensures) refl (c .run-end .ensures), refl)
 
 pub next-owner-spec : {M : Type 1} → statement M
 next-owner-spec = tie.close (tie.spec transfer-requires sub-left run-end-requires returns)

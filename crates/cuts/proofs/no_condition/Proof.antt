@@ -1,9 +1,6 @@
 -- `cuts::no_condition` meets its contract: before the first record all are 0. Assumes nothing.
 use Rattle.cuts.proofs.Walks.{conditions-small, reading-none}
-use mathlib.Core.Path.{refl, ap, _∙_}
-use mathlib.Core.Bool.{cond}
-use lib.Dec.{eqb}
-use Prim.Native.Nat.{_-_, min}
+use mathlib.Core.Path.{refl}
 use borrow.Author.Needs.{needs}
 use Rattle.cuts.proofs.no_condition.Statement.{statement}
 use Rattle.cuts.proofs.no_condition.Tie as tie
@@ -18,7 +15,7 @@ run-end-requires : tie.Need-run-end-requires
 run-end-requires c κs = search needs
 
 returns : tie.Need-returns
-returns c = (reading-none _ _ (c .before .before .before .before .before .before .pre) (c .before .before .before .before .condition-groups .ensures) (c .run-end .ensures ∙ ap (λ d. cond (eqb (c .before .before .before .before .before .before .args .count) 0) (c .before .before .before .before .before .before .args .n) (min (d - c .before .before .before .before .before .before .args .start) (c .before .before .before .before .before .before .args .n))) (c .before .condition-day .ensures)), refl)
+returns c = (reading-none _ _ (c .before .before .before .before .before .before .pre) (c .before .before .before .before .condition-groups .ensures) (c .before .condition-day .ensures) (c .run-end .ensures), refl)
 
 pub no-condition-spec : {M : Type 1} → statement M
 no-condition-spec =

@@ -1,6 +1,7 @@
 -- `spans::add_figures` meets its contract: what the days before entry i have is added to the spans up to s (`Adding`). Assumes nothing.
 use borrow.Author.Needs.{needs}
-use Rattle.spans.proofs.Days.{Adding, adding-none, adding-asks, held-room, adding-room, adding-more, adding-done, reached-first, days-each}
+use Rattle.spans.proofs.Days.{Adding, adding-none, adding-asks, held-room, adding-room, adding-more, adding-done, reached-first}
+use Rattle.rules.proofs.Sums.{days-each}
 use Rattle.spans.specs.Spans.{figureOf}
 use native.Mathlib.Omega.{arith}
 use Prim.Native.Nat.{_-_, _≤_, max}
