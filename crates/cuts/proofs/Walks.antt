@@ -2,9 +2,9 @@
 use Prim.Native.Nat.{ℕ, zero, suc, _+_, _-_, _^_, _≤_, _<_, min, zero-le}
 use mathlib.Core.Path.{_≡_, refl, sym, ap, _∙_, subst}
 use mathlib.Core.Bool.{cond}
-use mathlib.Core.Logic.{⊎-elim}
+use mathlib.Core.Logic.{_⊎_, inl, inr, ⊎-elim}
 use mathlib.Core.List.{List, [], _∷_, map}
-use native.Mathlib.Nat.{eq-zero-or-pos}
+use native.Mathlib.Nat.{le-refl, eq-zero-or-pos}
 use native.Mathlib.Omega.{arith}
 use borrow.Author.Tests.{eq-eqb, ne-eqb}
 use lib.Dec.{eqb}
@@ -97,6 +97,28 @@ module _ {A B : Type 0} {here : ℕ → A} {next : ℕ → A → ℕ} {day : A �
           within = omega (arith, u .within, read-past here next left (u .at) h (u .read));
           walk = walk-next day value start n x (records here next (left - 1) past) (subst (λ xs. Walk day value start n all i now xs end) (read-one here next left (u .at) h (u .read)) (u .walk)) a (end-is here next day start n (left - 1) past (read .0) f g);
         }
+
+-- THE LOOP over the records that have come: whatever `has` says of where it began it says of where it is, and fewer are left once it has gone on
+pub record Passed {S F : Type 0} (has : F → S → Type 0) (left : S → ℕ) (from to : S) : Type 0 where
+  pub still : (all : F) → has all from → has all to
+  pub fewer : left to ≤ left from
+  pub gone : (to ≡ from) ⊎ (left to < left from)
+
+pub passed-none : {S F : Type 0} {has : F → S → Type 0} {left : S → ℕ} {from : S} → Passed has left from from
+passed-none = record { still = λ all h. h; fewer = le-refl _; gone = inl refl }
+
+module _ {S F : Type 0} {has : F → S → Type 0} {left : S → ℕ} {from to : S} (u : Passed has left from to) where
+  pub passed-more : {more : S} → ((all : F) → has all to → has all more) → 0 < left to → left more ≡ left to - 1 → Passed has left from more
+  passed-more on some less =
+      record {
+        still = λ all h. on all (u .still all h);
+        fewer = omega (arith, u .fewer);
+        gone = inr (omega (arith, u .fewer));
+      }
+
+  -- where it had to go on
+  pub passed-fewer : (end : S → ℕ) {i : ℕ} → i < end to → end from ≤ i → left to < left from
+  passed-fewer end a b = ⊎-elim (λ e. absurd (omega (arith, ap end e))) (λ l. l) (u .gone)
 
 -- THE FIRST
 some-first : (ts : List Transfer) (start n : ℕ) → FirstBy start ts → firstEntry (λ t. t .day) n start ts ≡ 0
