@@ -6,7 +6,6 @@ use mathlib.Core.Logic.{_⊎_, inl, inr, ⊎-elim}
 use mathlib.Core.List.{List, [], _∷_, map}
 use native.Mathlib.Nat.{le-refl, eq-zero-or-pos}
 use native.Mathlib.Omega.{arith}
-use borrow.Author.Tests.{eq-eqb, ne-eqb}
 use lib.Dec.{eqb}
 use Rattle.rules.specs.declared.Transfer.{Transfer}
 use Rattle.rules.specs.declared.Condition.{Condition}
@@ -20,14 +19,10 @@ use Rattle.records.proofs.Ahead.{read-one, read-past}
 use Rattle.records.specs.Conditions.{conditionOf}
 use Rattle.charged.specs.Charged.{firstEntry}
 use Rattle.providers.specs.Runs.{SoundTransfers}
+use Rattle.providers.proofs.Runs.{first-within, none-left, end-is, first-zero}
 use Rattle.cuts.specs.Cuts.{ownerOf, conditionIn, SoundConditions, Walk, Reading}
 
 module _ {A B : Type 0} (day : A → ℕ) (value : A → B) (start n : ℕ) where
-  first-within : (xs : List A) → firstEntry day n start xs ≤ n
-  unfolding firstEntry
-  first-within [] = omega arith
-  first-within (x ∷ xs) = omega arith
-
   module _ {all : ℕ → B} {i : ℕ} {now : B} where
     -- the days before the next record's entry have what is in force
     walk-under : {end : ℕ} (ahead : List A) → Walk day value start n all i now ahead end → (j : ℕ) → i ≤ j → j < end → all j ≡ now
@@ -46,23 +41,6 @@ module _ {A B : Type 0} (day : A → ℕ) (value : A → B) (start n : ℕ) wher
         }
 
 -- RECORDS OF A FILE
-module _ {A : Type 0} (here : ℕ → A) (next : ℕ → A → ℕ) (day : A → ℕ) (start n : ℕ) where
-  -- the entry of the first that is left
-  none-left : (left at : ℕ) → left ≡ 0 → n ≡ firstEntry day n start (records here next left at)
-  unfolding records firstEntry
-  none-left left at z = ap (λ k. firstEntry day n start (records here next k at)) (sym z)
-
-  one-left : (left at : ℕ) {x : A} → 0 < left → x ≡ here at → min (day x - start) n ≡ firstEntry day n start (records here next left at)
-  unfolding firstEntry
-  one-left left at h e = sym (ap (firstEntry day n start) (read-one here next left at h (e, refl)))
-
-  end-is : (left at : ℕ) {x : A} {d end : ℕ} → x ≡ here at → d ≡ day x → end ≡ cond (eqb left 0) n (min (d - start) n) → end ≡ firstEntry day n start (records here next left at)
-  end-is left at {x} e f g =
-      let k = g ∙ ap (λ d. cond (eqb left 0) n (min (d - start) n)) f in
-      ⊎-elim (λ z. k ∙ (ap (λ b. cond b n (min (day x - start) n)) (eq-eqb left 0 z) ∙ none-left left at z))
-      (λ h. k ∙ (ap (λ b. cond b n (min (day x - start) n)) (ne-eqb left 0 (λ z. absurd (omega arith))) ∙ one-left left at h e))
-      (eq-zero-or-pos left)
-
 module _ {A B : Type 0} {here : ℕ → A} {next : ℕ → A → ℕ} {day : A → ℕ} {value : A → B} {start n : ℕ} where
   module _ {all : ℕ → B} {i : ℕ} {now : B} {x : A} {past left end : ℕ} (u : Reading here next day value start n all i now x past left end) where
     -- where a day is left that has not come, there is a record
@@ -70,7 +48,7 @@ module _ {A B : Type 0} {here : ℕ → A} {next : ℕ → A → ℕ} {day : A �
     reading-some a b = ⊎-elim (λ z. absurd (omega (arith, u .walk .ends, none-left here next day start n left (u .at) z))) (λ h. h) (eq-zero-or-pos left)
 
     pub reading-within : end ≤ n
-    reading-within = omega (arith, u .walk .ends, first-within day value start n (records here next left (u .at)))
+    reading-within = omega (arith, u .walk .ends, first-within day n start (records here next left (u .at)))
 
     pub reading-under : (j : ℕ) → i ≤ j → j < end → all j ≡ now
     reading-under = walk-under day value start n (records here next left (u .at)) (u .walk)
@@ -121,11 +99,6 @@ module _ {S F : Type 0} {has : F → S → Type 0} {left : S → ℕ} {from to :
   passed-fewer end a b = ⊎-elim (λ e. absurd (omega (arith, ap end e))) (λ l. l) (u .gone)
 
 -- THE FIRST
-some-first : (ts : List Transfer) (start n : ℕ) → FirstBy start ts → firstEntry (λ t. t .day) n start ts ≡ 0
-unfolding firstEntry
-some-first [] start n f = absurd f
-some-first (t ∷ ts) start n f = omega arith
-
 no-transfers : (file : List ℕ) (count at day : ℕ) → FirstBy day (transfers file count at) → 0 < count
 unfolding records
 no-transfers file zero at day f = absurd f
@@ -145,7 +118,7 @@ module _ {file : List ℕ} {count at start : ℕ} (n : ℕ) (sound : SoundTransf
           at = at;
           read = read;
           within = sound .ends;
-          walk = record { ascend = sound .ascend; same = λ j a b. refl; ends = sym (some-first (transfers file count at) start n (sound .first)) };
+          walk = record { ascend = sound .ascend; same = λ j a b. refl; ends = sym (first-zero n start (transfers file count at) (sound .first)) };
         }
 
     pub first-small : past < 2 ^ 32
