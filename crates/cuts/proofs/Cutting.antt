@@ -1,6 +1,6 @@
 -- The loop that cuts the days into spans. Assumes nothing.
-use Prim.Native.Nat.{ℕ, zero, suc, _+_, _-_, _*_, _≤_, _<_, min, zero-le}
-use mathlib.Core.Path.{_≡_, refl, sym, ap, _∙_, subst}
+use Prim.Native.Nat.{ℕ, zero, suc, _+_, _*_, _≤_, _<_, min, zero-le}
+use mathlib.Core.Path.{_≡_, refl, sym, ap, ap₂, _∙_, subst}
 use mathlib.Core.List.{List}
 use native.Mathlib.Decide.{decLt}
 use native.Mathlib.Omega.{arith}
@@ -8,7 +8,7 @@ use lib.ListN.{length}
 use Rattle.rules.specs.declared.Condition.{Condition}
 use Rattle.records.specs.declared.Groups.{Groups}
 use Rattle.records.specs.Conditions.{conditionOf}
-use Rattle.spans.specs.Spans.{numberIn, beginIn, endIn, Cut, Sum, placeOf, litresSum, annualSum, allowanceSum, thresholdSum, sumIn, SpanSet}
+use Rattle.spans.specs.Spans.{numberIn, beginIn, endIn, Sum, placeOf, litresSum, annualSum, allowanceSum, thresholdSum, sumIn, SpanSet}
 use Rattle.cuts.specs.declared.Owning.{Owning}
 use Rattle.cuts.specs.declared.Holding.{Holding}
 use Rattle.cuts.specs.Cuts.{Owns, Held, spanCondition, CutBy}
@@ -33,6 +33,10 @@ cut-none long =
       clear = λ q s h. absurd (omega arith);
     }
 
+-- the condition of a span, by its two numbers
+pub condition-by : (spans : List ℕ) (s : ℕ) {x y : ℕ} → numberIn spans s 2 ≡ x → numberIn spans s 3 ≡ y → spanCondition spans s ≡ conditionOf (record { state = x; rateable = y })
+condition-by spans s e f = ap₂ (λ x y. conditionOf (record { state = x; rateable = y })) e f
+
 -- ONE MORE SPAN, from where the last one ends
 module _ {spans next : List ℕ} {owner : ℕ → ℕ} {on : ℕ → Condition} {s i end provider : ℕ} {g : Groups} (u : CutBy spans i s owner on) (v : SpanSet spans next s end provider g) where
   number-before : (t k : ℕ) → t < s → k < 8 → numberIn next t k ≡ numberIn spans t k
@@ -47,29 +51,14 @@ module _ {spans next : List ℕ} {owner : ℕ → ℕ} {on : ℕ → Condition} 
   begin-here = begin-before s (omega arith) ∙ u .cut .all
 
   module _ (forward : i < end) (room : s * 8 + 8 ≤ length spans) (mine : (j : ℕ) → i ≤ j → j < end → owner j ≡ provider) (under : (j : ℕ) → i ≤ j → j < end → on j ≡ conditionOf g) where
-    owned : (t j : ℕ) → t < s + 1 → beginIn next t ≤ j → j < endIn next t → numberIn next t 1 ≡ owner j
-    owned t j h a b = elim (decLt t s) [
-      | yes lt ↦ number-before t 1 lt (omega arith) ∙ u .owners t j lt (omega (arith, begin-before t (omega arith))) (omega (arith, number-before t 0 lt (omega arith)))
+    -- what a span has is what each of its days has by `all`: of the owner and of the condition alike
+    one-more : {B : Type 0} (value : List ℕ → ℕ → B) (all : ℕ → B) → ((t : ℕ) → t < s → value next t ≡ value spans t) → ((j : ℕ) → i ≤ j → j < end → value next s ≡ all j) →
+        ((t j : ℕ) → t < s → beginIn spans t ≤ j → j < endIn spans t → value spans t ≡ all j) → (t j : ℕ) → t < s + 1 → beginIn next t ≤ j → j < endIn next t → value next t ≡ all j
+    one-more value all same here before t j h a b = elim (decLt t s) [
+      | yes lt ↦ same t lt ∙ before t j lt (omega (arith, begin-before t (omega arith))) (omega (arith, number-before t 0 lt (omega arith)))
       | no ge ↦
           let e : t ≡ s = omega arith in
-          ap (λ t. numberIn next t 1) e ∙ v .owner ∙ sym (mine j (omega (arith, begin-here, ap (beginIn next) e)) (omega (arith, v .ends, ap (endIn next) e)))
-    ]
-
-    before-under : (t : ℕ) → t < s → spanCondition next t ≡ spanCondition spans t
-    before-under t lt =
-        let x = number-before t 2 lt (omega arith) in
-        let y = number-before t 3 lt (omega arith) in
-        ap (λ x. conditionOf (record { state = x; rateable = numberIn next t 3 })) x ∙ ap (λ y. conditionOf (record { state = numberIn spans t 2; rateable = y })) y
-
-    here-under : spanCondition next s ≡ conditionOf g
-    here-under = ap (λ x. conditionOf (record { state = x; rateable = numberIn next s 3 })) (v .state) ∙ ap (λ y. conditionOf (record { state = g .state; rateable = y })) (v .rateable)
-
-    governed : (t j : ℕ) → t < s + 1 → beginIn next t ≤ j → j < endIn next t → spanCondition next t ≡ on j
-    governed t j h a b = elim (decLt t s) [
-      | yes lt ↦ before-under t lt ∙ u .conditions t j lt (omega (arith, begin-before t (omega arith))) (omega (arith, number-before t 0 lt (omega arith)))
-      | no ge ↦
-          let e : t ≡ s = omega arith in
-          ap (spanCondition next) e ∙ here-under ∙ sym (under j (omega (arith, begin-here, ap (beginIn next) e)) (omega (arith, v .ends, ap (endIn next) e)))
+          ap (value next) e ∙ here j (omega (arith, begin-here, ap (beginIn next) e)) (omega (arith, v .ends, ap (endIn next) e))
     ]
 
     days-some : (t : ℕ) → t < s + 1 → beginIn next t < endIn next t
@@ -93,8 +82,9 @@ module _ {spans next : List ℕ} {owner : ℕ → ℕ} {on : ℕ → Condition} 
         record {
           long = v .long ∙ u .long;
           cut = record { room = omega (arith, v .long); some = days-some; all = last-end };
-          owners = owned;
-          conditions = governed;
+          owners = one-more (λ l t. numberIn l t 1) owner (λ t h. number-before t 1 h (omega arith)) (λ j a b. v .owner ∙ sym (mine j a b)) (u .owners);
+          conditions =
+              one-more spanCondition on (λ t h. condition-by next t (number-before t 2 h (omega arith)) (number-before t 3 h (omega arith))) (λ j a b. condition-by next s (v .state) (v .rateable) ∙ sym (under j a b)) (u .conditions);
           clear = cleared;
         }
 

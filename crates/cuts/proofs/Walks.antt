@@ -2,33 +2,27 @@
 use Prim.Native.Nat.{ℕ, zero, suc, _+_, _-_, _^_, _≤_, _<_, min, zero-le}
 use mathlib.Core.Path.{_≡_, refl, sym, ap, _∙_, subst}
 use mathlib.Core.Bool.{cond}
-use mathlib.Core.Logic.{⊎-elim}
+use mathlib.Core.Logic.{_⊎_, inl, inr, ⊎-elim}
 use mathlib.Core.List.{List, [], _∷_, map}
-use native.Mathlib.Nat.{eq-zero-or-pos}
+use native.Mathlib.Nat.{le-refl, eq-zero-or-pos}
 use native.Mathlib.Omega.{arith}
-use borrow.Author.Tests.{eq-eqb, ne-eqb}
 use lib.Dec.{eqb}
 use Rattle.rules.specs.declared.Transfer.{Transfer}
 use Rattle.rules.specs.declared.Condition.{Condition}
-use Rattle.rules.specs.Lists.{Ascending, latest}
-use Rattle.rules.specs.File.{records, after, transferAt, afterTransfer, transfers, conditionAt, afterCondition, conditions}
+use Rattle.rules.specs.Lists.{latest}
+use Rattle.rules.specs.File.{records, transferAt, afterTransfer, transfers, conditionAt, afterCondition, conditions}
 use Rattle.rules.specs.Charges.{noCondition}
 use Rattle.rules.specs.Good.{FirstBy}
 use Rattle.rules.proofs.Lists.{ascending-lower, latest-here, latest-ahead}
 use Rattle.records.proofs.Positions.{forward}
 use Rattle.records.proofs.Ahead.{read-one, read-past}
-use Rattle.records.specs.declared.Groups.{Groups}
 use Rattle.records.specs.Conditions.{conditionOf}
 use Rattle.charged.specs.Charged.{firstEntry}
 use Rattle.providers.specs.Runs.{SoundTransfers}
+use Rattle.providers.proofs.Runs.{first-within, none-left, end-is, first-zero}
 use Rattle.cuts.specs.Cuts.{ownerOf, conditionIn, SoundConditions, Walk, Reading}
 
 module _ {A B : Type 0} (day : A → ℕ) (value : A → B) (start n : ℕ) where
-  first-within : (xs : List A) → firstEntry day n start xs ≤ n
-  unfolding firstEntry
-  first-within [] = omega arith
-  first-within (x ∷ xs) = omega arith
-
   module _ {all : ℕ → B} {i : ℕ} {now : B} where
     -- the days before the next record's entry have what is in force
     walk-under : {end : ℕ} (ahead : List A) → Walk day value start n all i now ahead end → (j : ℕ) → i ≤ j → j < end → all j ≡ now
@@ -47,22 +41,6 @@ module _ {A B : Type 0} (day : A → ℕ) (value : A → B) (start n : ℕ) wher
         }
 
 -- RECORDS OF A FILE
-module _ {A : Type 0} (here : ℕ → A) (next : ℕ → A → ℕ) (day : A → ℕ) (start n : ℕ) where
-  -- the entry of the first that is left
-  none-left : (left at : ℕ) → left ≡ 0 → n ≡ firstEntry day n start (records here next left at)
-  unfolding records firstEntry
-  none-left left at z = ap (λ k. firstEntry day n start (records here next k at)) (sym z)
-
-  one-left : (left at : ℕ) {x : A} → 0 < left → x ≡ here at → min (day x - start) n ≡ firstEntry day n start (records here next left at)
-  unfolding firstEntry
-  one-left left at h e = sym (ap (firstEntry day n start) (read-one here next left at h (e, refl)))
-
-  end-is : (left at : ℕ) {x : A} {end : ℕ} → x ≡ here at → end ≡ cond (eqb left 0) n (min (day x - start) n) → end ≡ firstEntry day n start (records here next left at)
-  end-is left at {x} e g =
-      ⊎-elim (λ z. g ∙ (ap (λ b. cond b n (min (day x - start) n)) (eq-eqb left 0 z) ∙ none-left left at z))
-      (λ h. g ∙ (ap (λ b. cond b n (min (day x - start) n)) (ne-eqb left 0 (λ z. absurd (omega arith))) ∙ one-left left at h e))
-      (eq-zero-or-pos left)
-
 module _ {A B : Type 0} {here : ℕ → A} {next : ℕ → A → ℕ} {day : A → ℕ} {value : A → B} {start n : ℕ} where
   module _ {all : ℕ → B} {i : ℕ} {now : B} {x : A} {past left end : ℕ} (u : Reading here next day value start n all i now x past left end) where
     -- where a day is left that has not come, there is a record
@@ -70,7 +48,7 @@ module _ {A B : Type 0} {here : ℕ → A} {next : ℕ → A → ℕ} {day : A �
     reading-some a b = ⊎-elim (λ z. absurd (omega (arith, u .walk .ends, none-left here next day start n left (u .at) z))) (λ h. h) (eq-zero-or-pos left)
 
     pub reading-within : end ≤ n
-    reading-within = omega (arith, u .walk .ends, first-within day value start n (records here next left (u .at)))
+    reading-within = omega (arith, u .walk .ends, first-within day n start (records here next left (u .at)))
 
     pub reading-under : (j : ℕ) → i ≤ j → j < end → all j ≡ now
     reading-under = walk-under day value start n (records here next left (u .at)) (u .walk)
@@ -88,22 +66,39 @@ module _ {A B : Type 0} {here : ℕ → A} {next : ℕ → A → ℕ} {day : A �
       pub reading-small : past < 2 ^ 32
       reading-small = omega (arith, u .within, read-past here next left (u .at) h (u .read), forward step past (records here next (left - 1) past))
 
-    pub reading-next : 0 < left → end ≤ i → {y : A} {later end′ : ℕ} → (y ≡ here past) × (later ≡ next past (here past)) → end′ ≡ cond (eqb (left - 1) 0) n (min (day y - start) n) →
+    pub reading-next : 0 < left → end ≤ i → {y : A} {later d end′ : ℕ} → (y ≡ here past) × (later ≡ next past (here past)) → d ≡ day y → end′ ≡ cond (eqb (left - 1) 0) n (min (d - start) n) →
         Reading here next day value start n all i (value x) y later (left - 1) end′
-    reading-next h a read g =
+    reading-next h a read f g =
         record {
           at = past;
           read = read;
           within = omega (arith, u .within, read-past here next left (u .at) h (u .read));
-          walk = walk-next day value start n x (records here next (left - 1) past) (subst (λ xs. Walk day value start n all i now xs end) (read-one here next left (u .at) h (u .read)) (u .walk)) a (end-is here next day start n (left - 1) past (read .0) g);
+          walk = walk-next day value start n x (records here next (left - 1) past) (subst (λ xs. Walk day value start n all i now xs end) (read-one here next left (u .at) h (u .read)) (u .walk)) a (end-is here next day start n (left - 1) past (read .0) f g);
         }
 
--- THE FIRST
-some-first : (ts : List Transfer) (start n : ℕ) → FirstBy start ts → firstEntry (λ t. t .day) n start ts ≡ 0
-unfolding firstEntry
-some-first [] start n f = absurd f
-some-first (t ∷ ts) start n f = omega arith
+-- THE LOOP over the records that have come: whatever `has` says of where it began it says of where it is, and fewer are left once it has gone on
+pub record Passed {S F : Type 0} (has : F → S → Type 0) (left : S → ℕ) (from to : S) : Type 0 where
+  pub still : (all : F) → has all from → has all to
+  pub fewer : left to ≤ left from
+  pub gone : (to ≡ from) ⊎ (left to < left from)
 
+pub passed-none : {S F : Type 0} {has : F → S → Type 0} {left : S → ℕ} {from : S} → Passed has left from from
+passed-none = record { still = λ all h. h; fewer = le-refl _; gone = inl refl }
+
+module _ {S F : Type 0} {has : F → S → Type 0} {left : S → ℕ} {from to : S} (u : Passed has left from to) where
+  pub passed-more : {more : S} → ((all : F) → has all to → has all more) → 0 < left to → left more ≡ left to - 1 → Passed has left from more
+  passed-more on some less =
+      record {
+        still = λ all h. on all (u .still all h);
+        fewer = omega (arith, u .fewer);
+        gone = inr (omega (arith, u .fewer));
+      }
+
+  -- where it had to go on
+  pub passed-fewer : (end : S → ℕ) {i : ℕ} → i < end to → end from ≤ i → left to < left from
+  passed-fewer end a b = ⊎-elim (λ e. absurd (omega (arith, ap end e))) (λ l. l) (u .gone)
+
+-- THE FIRST
 no-transfers : (file : List ℕ) (count at day : ℕ) → FirstBy day (transfers file count at) → 0 < count
 unfolding records
 no-transfers file zero at day f = absurd f
@@ -123,7 +118,7 @@ module _ {file : List ℕ} {count at start : ℕ} (n : ℕ) (sound : SoundTransf
           at = at;
           read = read;
           within = sound .ends;
-          walk = record { ascend = sound .ascend; same = λ j a b. refl; ends = sym (some-first (transfers file count at) start n (sound .first)) };
+          walk = record { ascend = sound .ascend; same = λ j a b. refl; ends = sym (first-zero n start (transfers file count at) (sound .first)) };
         }
 
     pub first-small : past < 2 ^ 32
@@ -131,7 +126,7 @@ module _ {file : List ℕ} {count at start : ℕ} (n : ℕ) (sound : SoundTransf
 
     pub reading-first : {y : Transfer} {later end : ℕ} → (y ≡ transferAt file past) × (later ≡ afterTransfer past) → end ≡ cond (eqb (count - 1) 0) n (min (y .day - start) n) →
         Reading (transferAt file) (λ at t. afterTransfer at) (λ t. t .day) (λ t. t .provider) start n (ownerOf file count at start) 0 (t .provider) y later (count - 1) end
-    reading-first = reading-next before-first some-transfers zero-le
+    reading-first read = reading-next before-first some-transfers zero-le read refl
 
 pub no-groups : conditionOf (record { state = 0; rateable = 0 }) ≡ noCondition
 unfolding conditionOf noCondition
@@ -141,12 +136,12 @@ module _ {file : List ℕ} {count at : ℕ} (start n : ℕ) (sound : SoundCondit
   pub conditions-small : at < 2 ^ 32
   conditions-small = omega (arith, sound .ends, forward {next = λ at c. afterCondition at} (λ at c. omega arith) at (conditions file count at))
 
-  pub reading-none : {c : Condition} {past end : ℕ} → (c ≡ conditionAt file at) × (past ≡ afterCondition at) → end ≡ cond (eqb count 0) n (min (c .day - start) n) →
+  pub reading-none : {c : Condition} {past d end : ℕ} → (c ≡ conditionAt file at) × (past ≡ afterCondition at) → d ≡ c .day → end ≡ cond (eqb count 0) n (min (d - start) n) →
       Reading (conditionAt file) (λ at c. afterCondition at) (λ c. c .day) (λ c. c) start n (conditionIn file count at start) 0 (conditionOf (record { state = 0; rateable = 0 })) c past count end
-  reading-none read g =
+  reading-none read f g =
       record {
         at = at;
         read = read;
         within = sound .ends;
-        walk = record { ascend = sound .ascend; same = λ j a b. ap (λ c. latest (λ c. c .day) (λ c. c) c (conditions file count at) (start + j)) (sym no-groups); ends = end-is (conditionAt file) (λ at c. afterCondition at) (λ c. c .day) start n count at (read .0) g };
+        walk = record { ascend = sound .ascend; same = λ j a b. ap (λ c. latest (λ c. c .day) (λ c. c) c (conditions file count at) (start + j)) (sym no-groups); ends = end-is (conditionAt file) (λ at c. afterCondition at) (λ c. c .day) start n count at (read .0) f g };
       }

@@ -1,24 +1,23 @@
 -- A point's charged days, cut at its transfers and conditions.
-use Prim.Native.Nat.{ℕ, _+_, _-_, _^_, _≤_, _<_}
+use Prim.Native.Nat.{ℕ, _+_, _^_, _≤_, _<_}
 use mathlib.Core.Path.{_≡_}
 use mathlib.Core.List.{List, map}
 use lib.ListN.{length}
-use Rattle.rules.specs.declared.Transfer.{Transfer}
 use Rattle.rules.specs.declared.Condition.{Condition}
 use Rattle.rules.specs.Lists.{Ascending, latest}
 use Rattle.rules.specs.File.{records, after, transferAt, afterTransfer, transfers, conditionAt, afterCondition, conditions, afterConditions}
 use Rattle.rules.specs.Charges.{noCondition}
 use Rattle.charged.specs.Charged.{firstEntry}
-use Rattle.records.specs.declared.Groups.{Groups}
 use Rattle.records.specs.Conditions.{conditionOf}
 use Rattle.spans.specs.Spans.{numberIn, beginIn, endIn, Cut, Sum, sumIn}
 use Rattle.cuts.specs.declared.Owning.{Owning}
 use Rattle.cuts.specs.declared.Holding.{Holding}
 
--- the provider and the condition of the day of entry i, from `start` on
+-- the provider of the day of entry i, from `start` on
 abbrev pub ownerOf : List ℕ → ℕ → ℕ → ℕ → ℕ → ℕ
 ownerOf file count at start i = latest (λ t. t .day) (λ t. t .provider) 0 (transfers file count at) (start + i)
 
+-- and its condition
 abbrev pub conditionIn : List ℕ → ℕ → ℕ → ℕ → ℕ → Condition
 conditionIn file count at start i = latest (λ c. c .day) (λ c. c) noCondition (conditions file count at) (start + i)
 
@@ -41,11 +40,12 @@ pub record Reading {A B : Type 0} (here : ℕ → A) (next : ℕ → A → ℕ) 
   pub within : after next at (records here next left at) < 2 ^ 32
   pub walk : Walk day value start n all i now (records here next left at) end
 
--- the transfers, and the conditions
+-- the transfers, by how far `owner_at` has gone through them; day i of n has the provider `owner i`
 abbrev pub Owns : List ℕ → ℕ → ℕ → (ℕ → ℕ) → ℕ → Owning → Type 0
 Owns file start n owner i o =
     Reading (transferAt file) (λ at t. afterTransfer at) (λ t. t .day) (λ t. t .provider) start n owner i (o .provider) (o .ahead) (o .next .at) (o .left) (o .end)
 
+-- the conditions, by how far `condition_at` has; day i of n has the condition `on i`
 abbrev pub Held : List ℕ → ℕ → ℕ → (ℕ → Condition) → ℕ → Holding → Type 0
 Held file start n on i h =
     Reading (conditionAt file) (λ at c. afterCondition at) (λ c. c .day) (λ c. c) start n on i (conditionOf (h .groups)) (conditionOf (h .ahead)) (h .next .at) (h .left) (h .end)

@@ -21,7 +21,8 @@ pub struct Lists {
     pub condition_count: u64,
 }
 
-// The provider of the days before an entry, and the transfer ahead, which is read: so many are left with it. `next` is the cursor after it.
+// The provider of the days before an entry, and the transfer ahead, which is read: so many are left with it. `next` is the cursor after it. Where
+// none is left, what stands behind the last was read, and is not asked for.
 struct Owning {
     provider: u64,
     end: usize,
@@ -30,7 +31,8 @@ struct Owning {
     left: u64,
 }
 
-// The condition of the days before an entry, and the one ahead, which is read: so many are left with it. `next` is the cursor after it.
+// The condition of the days before an entry, and the one ahead, which is read: so many are left with it. `next` is the cursor after it. Where none is
+// left, what stands behind the last was read, and is not asked for.
 struct Holding {
     groups: Groups,
     end: usize,

@@ -2,4 +2,4 @@ pub mod Owners
 pub mod Own
 pub mod Charging
 pub mod Sums
-pub mod Filled
+pub mod Settled

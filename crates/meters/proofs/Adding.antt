@@ -1,31 +1,27 @@
 -- Meters added to spans, one at a time. Assumes nothing.
-use Prim.Native.Nat.{ℕ, zero, suc, _+_, _-_, _*_, _^_, _≤_, _<_, min, zero-le}
-use mathlib.Core.Path.{_≡_, refl, sym, ap, _∙_, subst}
-use mathlib.Core.Bool.{Bool, true, false, cond}
+use Prim.Native.Nat.{ℕ, _+_, _-_, _*_, _^_, _≤_, _<_, min}
+use mathlib.Core.Path.{_≡_, refl, sym, ap, _∙_}
 use mathlib.Core.List.{List, [], _∷_}
-use native.Mathlib.Nat.{le-refl, mul-le-mul, mul-le-mul-left, div-le-of-le-mul}
+use native.Mathlib.Nat.{mul-le-mul, mul-le-mul-left}
 use native.Mathlib.Decide.{decLt}
 use native.Mathlib.Omega.{arith}
 use lib.ListN.{length}
-use lib.Dec.{eqb}
-use Rattle.rules.specs.declared.Read.{Read}
 use Rattle.rules.specs.declared.Band.{Band}
 use Rattle.rules.specs.declared.MeterHead.{MeterHead}
-use Rattle.rules.specs.Sums.{over, overDays}
+use Rattle.rules.specs.Sums.{over}
 use Rattle.rules.specs.Lists.{All}
-use Rattle.rules.specs.File.{Meter, meterHead, meterHeadAt, reads, readsFrom, afterReads, meterAt, afterMeter}
-use Rattle.rules.specs.Litres.{advance, carriedBefore, betweenReads, fromReads, meterLitres}
-use Rattle.rules.specs.Charges.{noBand, firstBand, bandFor}
-use Rattle.rules.specs.Good.{GoodBand, GoodRead, GoodAdvances, GoodMeter}
-use Rattle.rules.proofs.Lists.{latest-all}
-use Rattle.rules.proofs.Shares.{days-eq, days-add, days-none}
-use Rattle.rules.proofs.Sums.{days-most}
+use Rattle.rules.specs.File.{Meter, meterHeadAt, reads, readsFrom, afterReads, meterAt, afterMeter}
+use Rattle.rules.specs.Litres.{meterLitres}
+use Rattle.rules.specs.Charges.{bandFor}
+use Rattle.rules.specs.Good.{GoodBand, GoodMeter}
+use Rattle.rules.proofs.Shares.{days-eq}
+use Rattle.rules.proofs.Sums.{days-each}
 use Rattle.spans.specs.declared.Figures.{Figures}
-use Rattle.spans.specs.Spans.{endIn, beginIn, Cut, Sum, litresSum, annualSum, allowanceSum, thresholdSum, sumIn, Kept, litresOf, figureOf, during, overSpan, Grown, Room}
-use Rattle.spans.proofs.Days.{during-in, during-before, during-after, during-le, during-entry, days-each, days-shift, span-within, begin-same, end-same, over-same, cut-same, kept-all, kept-both, grown-on, room-on, over-eq, over-le, over-add, over-none}
-use Rattle.meters.specs.Meters.{carried, spread, Spreadable, meterOf, weighed, Weights, Sums, meterFigure, sumWith, GrownWith, RoomWith, SumsClear, MetersIn}
-use Rattle.meters.proofs.Advances.{during-zero, litresAt}
-use Rattle.meters.proofs.Bounds.{Figure, annual-figure, allowance-figure, threshold-figure, band-most, meters-most, over-is}
+use Rattle.spans.specs.Spans.{endIn, beginIn, Cut, Sum, litresSum, annualSum, allowanceSum, thresholdSum, sumIn, Kept, figureOf, during, overSpan, Grown, Room}
+use Rattle.spans.proofs.Days.{during-in, during-zero, during-entry, span-within, begin-same, end-same, over-same, cut-same, kept-all, kept-both, grown-on, room-on, over-eq, over-le, over-add, over-none, over-is}
+use Rattle.meters.specs.Meters.{meterOf, weighed, Weights, Sums, meterFigure, sumWith, GrownWith, RoomWith, SumsClear, MetersIn}
+use Rattle.meters.proofs.Advances.{litresAt}
+use Rattle.meters.proofs.Bounds.{Figure, annual-figure, allowance-figure, threshold-figure, band-most, meters-most}
 
 -- SUMS BESIDES
 module _ (every : Figures) {before after : List ℕ} (kept : Kept before after) where

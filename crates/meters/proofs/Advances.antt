@@ -2,10 +2,8 @@
 use Prim.Native.Nat.{ℕ, zero, suc, _+_, _-_, _*_, _/_, _≤_, _<_, min}
 use mathlib.Core.Path.{_≡_, refl, sym, ap, _∙_, subst}
 use mathlib.Core.List.{List, [], _∷_}
-use native.Mathlib.Nat.{pow-le-pow-right, mul-le-mul, mul-le-mul-left, mul-zero, zero-div, mul-div-mul-right, div-le-of-le-mul}
-use native.Mathlib.Decide.{decLt}
+use native.Mathlib.Nat.{pow-le-pow-right, mul-le-mul, mul-le-mul-left, mul-zero, zero-div, mul-div-mul-right}
 use native.Mathlib.Omega.{arith}
-use lib.ListN.{length}
 use Rattle.rules.specs.declared.Read.{Read}
 use Rattle.rules.specs.declared.MeterHead.{MeterHead}
 use Rattle.rules.specs.Sums.{overDays}
@@ -14,10 +12,11 @@ use Rattle.rules.specs.File.{Meter, records, after, meterHead, readAt, reads, a
 use Rattle.rules.specs.Litres.{dialValues, litresPerCount, advance, carriedBefore, betweenReads, fromReads, meterLitres}
 use Rattle.rules.specs.Good.{GoodMeterHead, GoodRead, GoodAdvance, GoodAdvances, GoodMeter}
 use Rattle.rules.proofs.Shares.{div-mono, days-none}
+use Rattle.rules.proofs.Sums.{days-shift}
 use Rattle.records.proofs.Positions.{length-records}
 use Rattle.records.proofs.Ahead.{Ahead, read-one, read-past, ahead-done}
 use Rattle.spans.specs.Spans.{endIn, Cut, Reached, Holds, SumsAdded, RoomAt, Sum, litresSum, annualSum, allowanceSum, thresholdSum, litresOf, during, Grown, Room}
-use Rattle.spans.proofs.Days.{during-in, during-before, during-after, during-entry, days-shift, grown-on, grown-none, room-on, Adding, adding-none, adding-asks, adding-room, adding-more, reached-first, cut-same, reached-same, reached-before, Rest, rest-all, rest-room, rest-more, rest-none}
+use Rattle.spans.proofs.Days.{during-none, during-zero, during-entry, grown-on, grown-none, room-on, Adding, adding-none, adding-asks, adding-room, adding-more, reached-first, cut-same, reached-same, reached-before, Rest, rest-all, rest-room, rest-more, rest-none}
 use Rattle.meters.specs.declared.Advance.{Advance}
 use Rattle.meters.specs.Meters.{carried, spread, spreadOf, Spreadable, meterOf, AdvanceOf}
 
@@ -82,15 +81,6 @@ piece-is litres parts first last start i stop h k u b annualSum = sym (days-none
 piece-is litres parts first last start i stop h k u b allowanceSum = sym (days-none _ _)
 piece-is litres parts first last start i stop h k u b thresholdSum = sym (days-none _ _)
 
-pub during-zero : (from to i : ℕ) → during from to (λ e. 0) i ≡ 0
-during-zero from to i = elim (decLt i from) [
-  | yes lt ↦ during-before from to _ i lt
-  | no ge ↦ elim (decLt i to) [
-    | yes lt ↦ during-in from to _ i (omega arith) lt
-    | no g ↦ during-after from to _ i (omega arith)
-  ]
-]
-
 -- the days of an advance by their entries
 pub spread-entry : (n start litres parts first last : ℕ) (q : Sum) (i : ℕ) → i < n →
     during (min (first - start) n) (min (last - start) n) (λ e. litresOf (carried litres parts first last (start + e)) q) i ≡ litresOf (spread litres parts first last (start + i)) q
@@ -102,10 +92,7 @@ spread-entry n start litres parts first last thresholdSum i h = during-zero _ _ 
 
 -- where no entry is left between its days, it has none that is charged
 pub spread-nowhere : (n start litres parts first last : ℕ) → min (last - start) n ≤ min (first - start) n → (q : Sum) (i : ℕ) → i < n → 0 ≡ litresOf (spread litres parts first last (start + i)) q
-spread-nowhere n start litres parts first last h q i k = sym (sym (spread-entry n start litres parts first last q i k) ∙ elim (decLt i (min (first - start) n)) [
-  | yes lt ↦ during-before _ _ _ i lt
-  | no ge ↦ during-after _ _ _ i (omega arith)
-])
+spread-nowhere n start litres parts first last h q i k = sym (sym (spread-entry n start litres parts first last q i k) ∙ during-none _ _ _ i h)
 
 -- no charged day is between its days
 pub advance-nowhere : (n k start : ℕ) (a : Advance) {from to : ℕ} → from ≡ min (a .first - start) n → to ≡ min (a .last - start) n →

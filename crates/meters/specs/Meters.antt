@@ -2,7 +2,6 @@
 use Prim.Native.Nat.{ℕ, _+_, _-_, _*_, _^_, _≤_, _<_}
 use mathlib.Core.Path.{_≡_}
 use mathlib.Core.List.{List, [], map}
-use lib.ListN.{length}
 use Rattle.rules.specs.declared.Band.{Band}
 use Rattle.rules.specs.declared.Read.{Read}
 use Rattle.rules.specs.declared.MeterHead.{MeterHead}
@@ -25,6 +24,7 @@ carried litres parts first last d =
 unfoldable pub spread : ℕ → ℕ → ℕ → ℕ → ℕ → ℕ
 spread litres parts first last = during first last (carried litres parts first last)
 
+-- the same of an advance by value
 abbrev pub spreadOf : Advance → ℕ → ℕ
 spreadOf a = spread (a .litres) (a .parts) (a .first) (a .last)
 
@@ -60,12 +60,13 @@ pub record AdvanceOf (m : MeterHead) (earlier later : Read) (a : Advance) : Type
 unfoldable pub weighed : (Band → ℕ) → List Band → Meter → ℕ → ℕ
 weighed figure bs m = during (m .installed) (m .removed) (λ d. figure (bandFor bs (m .size)) * m .share)
 
--- the figures of a band × a share, and the sums of two such
+-- the figures of a band × a share
 pub record Weights (b : Band) (share : ℕ) (r : Figures) : Type 0 where
   pub annual : r .annual ≡ b .annual * share
   pub allowance : r .allowance ≡ b .allowance * share
   pub threshold : r .threshold ≡ b .threshold * share
 
+-- the figures of two added, each to its own
 pub record Sums (x y r : Figures) : Type 0 where
   pub annual : r .annual ≡ x .annual + y .annual
   pub allowance : r .allowance ≡ x .allowance + y .allowance
@@ -82,11 +83,12 @@ meterFigure bs thresholdSum m d = weighed (λ b. b .threshold) bs m d
 unfoldable pub sumWith : Figures → List ℕ → Sum → ℕ → ℕ
 sumWith every spans q s = sumIn spans q s + figureOf every q * (endIn spans s - beginIn spans s)
 
--- the sums of m spans have grown by what their days have, where the day of entry i has f q i; and there is room for that
+-- the sums of m spans have grown by what their days have, where the day of entry i has f q i. What each day has besides was `every`, and is `more`
 pub record GrownWith (every more : Figures) (before after : List ℕ) (m : ℕ) (f : Sum → ℕ → ℕ) : Type 0 where
   pub kept : Kept before after
   pub sums : (q : Sum) (s : ℕ) → s < m → sumWith more after q s ≡ sumWith every before q s + overSpan before s (f q)
 
+-- there is room to grow so
 pub record RoomWith (every : Figures) (spans : List ℕ) (m : ℕ) (f : Sum → ℕ → ℕ) : Type 0 where
   pub fits : (q : Sum) (s : ℕ) → s < m → sumWith every spans q s + overSpan spans s (f q) < 2 ^ 64
 
@@ -99,12 +101,13 @@ pub record MetersIn (every : Figures) (before after : List ℕ) (m start : ℕ) 
   pub kept : Kept before after
   pub sums : (q : Sum) (s : ℕ) → s < m → sumWith every after q s ≡ overSpan before s (λ i. over ms (λ x. meterFigure bs q x (start + i)))
 
--- what an accepted file has of a point's n meters, and of the tariff's k bands
+-- what an accepted file has of a point's n meters
 pub record GoodMeters (file : List ℕ) (n at : ℕ) : Type 0 where
   pub few : n ≤ 16
   pub sound : All GoodMeter (meters file n at)
   pub ends : afterMeters at (meters file n at) < 2 ^ 32
 
+-- and of the tariff's k bands
 pub record GoodBands (file : List ℕ) (k at : ℕ) : Type 0 where
   pub some : 1 ≤ k
   pub priced : All GoodBand (bands file k at)

@@ -2,11 +2,10 @@
 // point's meters is read once.
 ghost use mathlib.Core.Path.{_≡_};
 ghost use Prim.Native.Nat.{_+_, _-_, _*_, _≤_, _<_, _^_, min};
-ghost use mathlib.Core.List.{[], map};
-ghost use Rattle.rules.specs.Lists.{All, Ascending};
-ghost use Rattle.rules.specs.File.{reads, bands as bandsFrom, meterAt, meters as metersFrom, afterReads, afterBands, afterMeter, afterMeters};
+ghost use mathlib.Core.List.{[]};
+ghost use Rattle.rules.specs.File.{reads, bands as bandsFrom, meterAt, meters as metersFrom, afterReads, afterMeter, afterMeters};
 ghost use Rattle.rules.specs.Litres.{advance, carriedBefore, meterLitres};
-ghost use Rattle.rules.specs.Good.{GoodBand, GoodMeterHead, GoodRead, GoodAdvance, GoodMeter};
+ghost use Rattle.rules.specs.Good.{GoodMeterHead, GoodRead, GoodAdvance, GoodMeter};
 ghost use Rattle.bands.specs.Bands.{SizesOf};
 ghost use mathlib.Core.Bool.{true};
 ghost use Rattle.spans.specs.Spans.{Cut, Reached, litresOf, figureOf, during, Grown, Room};

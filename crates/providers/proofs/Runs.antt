@@ -23,14 +23,31 @@ use Rattle.providers.specs.Runs.{SoundTransfers}
 abbrev pub ownerBy : List Transfer → ℕ → ℕ → ℕ
 ownerBy ts start i = latest (λ t. t .day) (λ t. t .provider) 0 ts (start + i)
 
--- A LIST of transfers
-pub first-within : (n start : ℕ) (ts : List Transfer) → firstEntry (λ t. t .day) n start ts ≤ n
+-- DATED RECORDS: the entry of the first of them is one of n days, or n
+pub first-within : {A : Type 0} (day : A → ℕ) (n start : ℕ) (xs : List A) → firstEntry day n start xs ≤ n
 unfolding firstEntry
-first-within n start [] = omega arith
-first-within n start (t ∷ ts) = omega arith
+first-within day n start [] = omega arith
+first-within day n start (x ∷ xs) = omega arith
 
--- one on or before the first day
-first-zero : (n start : ℕ) (ts : List Transfer) → FirstBy start ts → firstEntry (λ t. t .day) n start ts ≡ 0
+-- of records of a file, by the one that is read and how many are left with it
+module _ {A : Type 0} (here : ℕ → A) (next : ℕ → A → ℕ) (day : A → ℕ) (start n : ℕ) where
+  pub none-left : (left at : ℕ) → left ≡ 0 → n ≡ firstEntry day n start (records here next left at)
+  unfolding records firstEntry
+  none-left left at z = ap (λ k. firstEntry day n start (records here next k at)) (sym z)
+
+  one-left : (left at : ℕ) {x : A} → 0 < left → x ≡ here at → min (day x - start) n ≡ firstEntry day n start (records here next left at)
+  unfolding firstEntry
+  one-left left at h e = sym (ap (firstEntry day n start) (read-one here next left at h (e, refl)))
+
+  pub end-is : (left at : ℕ) {x : A} {d end : ℕ} → x ≡ here at → d ≡ day x → end ≡ cond (eqb left 0) n (min (d - start) n) → end ≡ firstEntry day n start (records here next left at)
+  end-is left at {x} e f g =
+      let k = g ∙ ap (λ d. cond (eqb left 0) n (min (d - start) n)) f in
+      ⊎-elim (λ z. k ∙ (ap (λ b. cond b n (min (day x - start) n)) (eq-eqb left 0 z) ∙ none-left left at z))
+      (λ h. k ∙ (ap (λ b. cond b n (min (day x - start) n)) (ne-eqb left 0 (λ z. absurd (omega arith))) ∙ one-left left at h e))
+      (eq-zero-or-pos left)
+
+-- A LIST of transfers, one on or before the first day
+pub first-zero : (n start : ℕ) (ts : List Transfer) → FirstBy start ts → firstEntry (λ t. t .day) n start ts ≡ 0
 unfolding firstEntry
 first-zero n start [] h = absurd h
 first-zero n start (t ∷ ts) h = omega arith
@@ -90,16 +107,6 @@ module _ (file : List ℕ) (start n : ℕ) where
       transfers file left at ≡ t ∷ transfers file (left - 1) next
   transfers-one left at h e = read-one (transferAt file) (λ at t. afterTransfer at) left at h e
 
-  -- the days are done up to its entry, and all of them where no transfer is left
-  run-from : (left at : ℕ) {next from : ℕ} {t : Transfer} → 0 < left → (t ≡ transferAt file at) × (next ≡ afterTransfer at) → from ≡ min (t .day - start) n →
-      from ≡ reached left at
-  unfolding firstEntry
-  run-from left at h e f = f ∙ sym (ap (firstEntry (λ t. t .day) n start) (transfers-one left at h e))
-
-  runs-end : (left at : ℕ) → left ≤ 0 → n ≡ reached left at
-  unfolding records firstEntry
-  runs-end left at h = ap (λ k. firstEntry (λ t. t .day) n start (transfers file k at)) {x = 0} {y = left} (omega arith)
-
   module _ {owner : ℕ → ℕ} {left at : ℕ} (u : RunsLeft owner left at) where
     transfer-small : at < 2 ^ 32
     transfer-small = omega (arith, u .ends, forward {next = λ at t. afterTransfer at} (λ at t. omega arith) at (transfers file left at))
@@ -127,8 +134,8 @@ module _ (file : List ℕ) (start n : ℕ) where
       run-owner =
           record {
             forwards = rw one (first-later n start t later ascends);
-            within = first-within n start later;
-            same = λ i a b. u .owners i a (omega (arith, first-within n start later)) ∙ (ap (λ ts. ownerBy ts start i) one ∙ owner-here n start t later ascends i (rw one at a) b);
+            within = first-within (λ t. t .day) n start later;
+            same = λ i a b. u .owners i a (omega (arith, first-within (λ t. t .day) n start later)) ∙ (ap (λ ts. ownerBy ts start i) one ∙ owner-here n start t later ascends i (rw one at a) b);
           }
 
       runs-turn : RunsLeft owner (left - 1) next
@@ -154,7 +161,7 @@ module _ (file : List ℕ) (start n : ℕ) where
     read-begin read = record { at = at; runs = runs-begin sound; read = read; here = sym (none-reached sound) }
 
   pub read-end : {owner : ℕ → ℕ} {left : ℕ} {t : Transfer} {next from : ℕ} → RunRead owner left t next from → left ≤ 0 → from ≡ n
-  read-end {owner} {left} u h = u .here ∙ sym (runs-end left (u .at) h)
+  read-end {owner} {left} u h = u .here ∙ sym (none-left (transferAt file) (λ at t. afterTransfer at) (λ t. t .day) start n left (u .at) (omega arith))
 
   module _ {owner : ℕ → ℕ} {left : ℕ} {t : Transfer} {next from : ℕ} (u : RunRead owner left t next from) (some : 0 < left) where
     pub next-read : next < 2 ^ 32
@@ -163,10 +170,7 @@ module _ (file : List ℕ) (start n : ℕ) where
     module _ {after to : ℕ} {later : Transfer} (read : (later ≡ transferAt file next) × (after ≡ afterTransfer next)) (g : to ≡ cond (eqb (left - 1) 0) n (min (later .day - start) n)) where
       -- the run ends at the entry of the next one
       to-is : to ≡ reached (left - 1) next
-      to-is =
-          ⊎-elim (λ z. g ∙ (ap (λ b. cond b n (min (later .day - start) n)) (eq-eqb (left - 1) 0 z) ∙ runs-end (left - 1) next (omega arith)))
-          (λ k. run-from (left - 1) next k read (g ∙ ap (λ b. cond b n (min (later .day - start) n)) (ne-eqb (left - 1) 0 (λ z. absurd (omega arith)))))
-          (eq-zero-or-pos (left - 1))
+      to-is = end-is (transferAt file) (λ at t. afterTransfer at) (λ t. t .day) start n (left - 1) next (read .0) refl g
 
       pub run-read : Run owner n from to (t .provider)
       run-read = rw (u .here, to-is) (run-owner (u .runs) some (u .read))

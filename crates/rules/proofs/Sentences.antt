@@ -2,7 +2,7 @@
 -- length and a refusal's number don't collide. Assumes nothing.
 use Prim.Native.Nat.{ℕ, zero, suc, _+_, _*_, _/_, _%_, _^_, _≤_, _<_}
 use mathlib.Core.Bool.{Bool, true, false, cond}
-use mathlib.Core.Path.{_≡_, refl, ap, _∙_}
+use mathlib.Core.Path.{_≡_, ap, _∙_}
 use mathlib.Core.List.{List, [], _∷_, _++_}
 use native.Mathlib.Nat.{zero-mul, mul-zero, pow-suc, one-le-pow, le-div-iff-mul-le}
 use native.Mathlib.Omega.{arith}
@@ -10,7 +10,7 @@ use native.Mathlib.Decide.{decLt}
 use lib.Dec.{ltb, eqb}
 use lib.ListN.{length, length-append}
 use borrow.Author.Tests.{le-ltb}
-use Rattle.rules.specs.Sums.{only, overDays}
+use Rattle.rules.specs.Sums.{overDays}
 use Rattle.rules.specs.File.{Point, Tariff, decode}
 use Rattle.rules.specs.Charges.{overCharged, chargedFrom, chargedCount, volumeOn, volume, volumetricCharge}
 use Rattle.rules.specs.Settlement.{overProviders, providerOn}
@@ -18,6 +18,7 @@ use Rattle.rules.specs.Text.{text, digits, decimal}
 use Rattle.rules.specs.Report.{field, serviceName, heading, reportOf, report}
 use Rattle.rules.specs.Promises.{Accepted}
 use Rattle.rules.proofs.Shares.{days-eq, days-none}
+use Rattle.rules.proofs.Sums.{only-none}
 use Rattle.rules.proofs.Kept.{accepted-good}
 
 -- V IS 0
@@ -30,11 +31,6 @@ day-none from (suc n) f z d a b = go (decLt d (from + n)) (day-none from n f (om
     go : Dec (d < from + n) → (d < from + n → f d ≡ 0) → f d ≡ 0
     go (yes h) before = before h
     go (no h) before = let e : d ≡ from + n = omega arith in ap f e ∙ omega arith
-
-only-none : (t : Bool) → only t 0 ≡ 0
-unfolding only
-only-none true = refl
-only-none false = refl
 
 -- whoever's days are summed, the sum is 0 and the divisor 1
 pub no-volume : (tariff : Tariff) (point : Point) → volume tariff (point .supply) ≡ 0 → (test : ℕ → Bool) →

@@ -1,27 +1,20 @@
 -- Days added to spans: what some days have is cut at the spans' ends, and each piece is added to the span that holds it. Every law is over any
 -- function of days. Assumes nothing.
-use Prim.Native.Nat.{ℕ, zero, suc, _+_, _-_, _*_, _^_, _≤_, _<_, min, max, zero-le}
+use Prim.Native.Nat.{ℕ, zero, suc, _+_, _-_, _*_, _≤_, _<_, min, max, zero-le}
 use mathlib.Core.Path.{_≡_, refl, sym, ap, _∙_, subst}
-use mathlib.Core.Bool.{Bool, true, false, _&&_}
 use mathlib.Core.Logic.{_⊎_, inl, inr}
 use mathlib.Core.List.{List}
-use native.Mathlib.Nat.{le-refl, mul-zero}
+use native.Mathlib.Nat.{le-refl}
 use native.Mathlib.Decide.{decLt}
 use native.Mathlib.Omega.{arith}
 use borrow.Author.Tests.{eq-eqb, ne-eqb, le-leb, lt-leb, lt-ltb, le-ltb}
 use lib.ListN.{length}
-use lib.Dec.{leb, ltb, eqb}
+use lib.Dec.{eqb}
 use Rattle.rules.specs.Sums.{only, overDays}
 use Rattle.rules.proofs.Lists.{three}
 use Rattle.rules.proofs.Shares.{days-eq, days-add, days-none}
 use Rattle.rules.proofs.Sums.{days-le, days-split}
-use Rattle.spans.specs.Spans.{numberIn, endIn, beginIn, Cut, Reached, Holds, Sum, sumIn, SumsAdded, Kept, RoomAt, during, overSpan, Grown, Room}
-
--- the same on each of some days
-pub days-each : (x from n : ℕ) → x * n ≡ overDays from n (λ i. x)
-unfolding overDays
-days-each x from zero = mul-zero x
-days-each x from (suc n) = omega (arith, days-each x from n)
+use Rattle.spans.specs.Spans.{endIn, beginIn, Cut, Reached, Holds, Sum, sumIn, SumsAdded, Kept, RoomAt, during, overSpan, Grown, Room}
 
 -- F ON SOME DAYS
 module _ (from to : ℕ) (f : ℕ → ℕ) (i : ℕ) where
@@ -53,10 +46,11 @@ during-split from i to f e a b = elim (decLt e i) [
   ]
 ]
 
-pub during-none : (from : ℕ) (f : ℕ → ℕ) (e : ℕ) → during from from f e ≡ 0
-during-none from f e = elim (decLt e from) [
-  | yes lt ↦ during-before from from f e lt
-  | no ge ↦ during-after from from f e (omega arith)
+-- where there is no day between the two
+pub during-none : (from to : ℕ) (f : ℕ → ℕ) (e : ℕ) → to ≤ from → during from to f e ≡ 0
+during-none from to f e h = elim (decLt e from) [
+  | yes lt ↦ during-before from to f e lt
+  | no ge ↦ during-after from to f e (omega arith)
 ]
 
 -- the entries of days, of n from `start` on
@@ -69,11 +63,6 @@ during-entry n start first last f i h = elim (decLt (start + i) first) [
   ]
 ]
 
-pub days-shift : (start from n : ℕ) (f : ℕ → ℕ) → overDays from n (λ i. f (start + i)) ≡ overDays (start + from) n f
-unfolding overDays
-days-shift start from zero f = refl
-days-shift start from (suc n) f = omega (arith, days-shift start from n f, ap f {x = start + (from + n)} {y = start + from + n} (omega arith))
-
 pub during-le : (from to b : ℕ) (f : ℕ → ℕ) (i : ℕ) → f i ≤ b → during from to f i ≤ b
 during-le from to b f i h = elim (decLt i from) [
   | yes lt ↦ omega (arith, during-before from to f i lt)
@@ -82,6 +71,9 @@ during-le from to b f i h = elim (decLt i from) [
     | no g ↦ omega (arith, during-after from to f i (omega arith))
   ]
 ]
+
+pub during-zero : (from to i : ℕ) → during from to (λ e. 0) i ≡ 0
+during-zero from to i = omega (arith, during-le from to 0 (λ e. 0) i zero-le)
 
 -- OVER A RANGE of days, from b on
 module _ (b n i to : ℕ) (f : ℕ → ℕ) where
@@ -178,6 +170,11 @@ pub over-add : (spans : List ℕ) (s : ℕ) (f g : ℕ → ℕ) → overSpan spa
 unfolding overSpan
 over-add spans s f g = days-add _ _ f g
 
+-- as days that stand side by side
+pub over-is : (spans : List ℕ) (s : ℕ) (f : ℕ → ℕ) → overSpan spans s f ≡ overDays (beginIn spans s) (endIn spans s - beginIn spans s) f
+unfolding overSpan
+over-is spans s f = refl
+
 -- THE LOOP over the spans that some days meet: those before an entry are added
 pub record Adding (before after : List ℕ) (n m from s i : ℕ) (f : Sum → ℕ → ℕ) : Type 0 where
   pub cut : Cut before n m
@@ -238,14 +235,6 @@ pub room-on : {spans : List ℕ} {n m : ℕ} {f g : Sum → ℕ → ℕ} → Cut
 room-on {spans} cut e r =
     record { fits = λ q s h. omega (arith, r .fits q s h, over-eq spans s (λ i k l. e q i (omega (arith, span-within cut s h)))) }
 
--- one after the other
-pub grown-both : {a b c : List ℕ} {m : ℕ} {f g : Sum → ℕ → ℕ} → Grown a b m f → Grown b c m g → Grown a c m (λ q i. f q i + g q i)
-grown-both {a} {f = f} {g} u v =
-    record {
-      kept = kept-both (u .kept) (v .kept);
-      sums = λ q s h. omega (arith, v .sums q s h, u .sums q s h, over-same (u .kept) s (g q), over-add a s (f q) (g q));
-    }
-
 -- THE REST: in a loop over records that add, what the spans have and what is still to come are what they had and the whole
 pub record Rest (before after : List ℕ) (m : ℕ) (rest whole : Sum → ℕ → ℕ) : Type 0 where
   pub kept : Kept before after
@@ -271,7 +260,7 @@ module _ {before after : List ℕ} {m : ℕ} {rest whole : Sum → ℕ → ℕ} 
 
 module _ {before : List ℕ} {n m : ℕ} (cut : Cut before n m) (from : ℕ) (f : Sum → ℕ → ℕ) where
   pub adding-none : {s : ℕ} → Reached before m s from → Adding before before n m from s from f
-  adding-none r = record { cut = cut; grown = grown-none (λ q. during-none from (f q)); begun = le-refl from; reached = r }
+  adding-none r = record { cut = cut; grown = grown-none (λ q e. during-none from from (f q) e (le-refl from)); begun = le-refl from; reached = r }
 
 module _ {before after : List ℕ} {n m from s i : ℕ} {f : Sum → ℕ → ℕ} (u : Adding before after n m from s i f) where
   -- what the search for the next span asks
@@ -331,11 +320,5 @@ module _ {before after : List ℕ} {n m from s i : ℕ} {f : Sum → ℕ → ℕ
   pub adding-done : {to : ℕ} → to ≤ i → i ≤ max from to → Grown before after m (λ q. during from to (f q))
   adding-done {to} a b = grown-as (λ q e. elim (decLt from to) [
     | yes lt ↦ ap (λ k. during from k (f q) e) {x = i} {y = to} (omega arith)
-    | no ge ↦
-        let z : i ≡ from = omega (arith, u .begun) in
-        (ap (λ k. during from k (f q) e) z ∙ during-none from (f q) e)
-        ∙ sym (elim (decLt e from) [
-          | yes l ↦ during-before from to (f q) e l
-          | no g ↦ during-after from to (f q) e (omega arith)
-        ])
+    | no ge ↦ during-none from i (f q) e (omega (arith, u .begun)) ∙ sym (during-none from to (f q) e (omega arith))
   ]) (u .grown)

@@ -1,19 +1,19 @@
 -- The numbers of spans, by what is written there. Assumes nothing.
 use Prim.Native.Nat.{ℕ, _+_, _*_, _≤_, _<_}
-use mathlib.Core.Path.{_≡_, refl, sym, ap, _∙_}
-use mathlib.Core.Bool.{Bool, true, false}
-use mathlib.Core.Logic.{_⊎_, inl, inr, ⊎-elim}
+use mathlib.Core.Path.{_≡_, refl, ap, _∙_}
+use mathlib.Core.Logic.{_⊎_, inl, inr}
 use mathlib.Core.List.{List}
 use native.Mathlib.Omega.{arith}
 use borrow.Author.Tests.{eq-eqb, ne-eqb}
-use lib.ListN.{length, getD, set, length-set}
+use lib.ListN.{length, set, length-set}
 use lib.Seq.{getD-set-same, getD-set-other}
 use lib.Dec.{eqb}
 use Rattle.rules.specs.Sums.{only}
 use Rattle.rules.proofs.Lists.{three}
+use Rattle.rules.proofs.Sums.{only-none}
 use Rattle.records.specs.declared.Groups.{Groups}
 use Rattle.spans.specs.declared.Figures.{Figures}
-use Rattle.spans.specs.Spans.{numberIn, Sum, litresSum, annualSum, allowanceSum, thresholdSum, placeOf, sumIn, NumberSet, SpanSet, SumsAdded, litresOf, figureOf}
+use Rattle.spans.specs.Spans.{numberIn, Sum, litresSum, annualSum, allowanceSum, thresholdSum, sumIn, NumberSet, SpanSet, SumsAdded, litresOf, figureOf}
 
 -- A NUMBER THAT IS SET: two numbers of spans stand at different indices
 pub number-set : (l : List ℕ) (s k v : ℕ) → k < 8 → s * 8 + 8 ≤ length l → NumberSet l (set l (s * 8 + k) v) s k v
@@ -39,11 +39,6 @@ module _ {l a : List ℕ} {s k : ℕ} (x : ℕ) (h : k < 8) (u : NumberSet l a s
 
   pub number-more : (t : ℕ) → numberIn a t k ≡ numberIn l t k + only (eqb t s) x
   number-more t = more-here t (three t s)
-
-only-none : (t : Bool) → only t 0 ≡ 0
-unfolding only
-only-none true = refl
-only-none false = refl
 
 pub litres-added : {l a : List ℕ} {s : ℕ} (x : ℕ) → NumberSet l a s 4 (numberIn l s 4 + x) → SumsAdded l a s (litresOf x)
 litres-added {l} {a} {s} x u =

@@ -14,10 +14,11 @@ use Rattle.spans.specs.declared.Span.{Span}
 unfoldable pub numberIn : List ℕ → ℕ → ℕ → ℕ
 numberIn spans s k = getD spans (s * 8 + k) 0
 
--- the entry before which it ends, and the one at which it begins: where the one before it ends
+-- the entry before which it ends
 abbrev pub endIn : List ℕ → ℕ → ℕ
 endIn spans s = numberIn spans s 0
 
+-- the entry at which it begins: the first at 0, and each other where the one before it ends
 unfoldable pub beginIn : List ℕ → ℕ → ℕ
 beginIn spans zero = 0
 beginIn spans (suc s) = endIn spans s
@@ -28,29 +29,32 @@ pub record Cut (spans : List ℕ) (n m : ℕ) : Type 0 where
   pub some : (s : ℕ) → s < m → beginIn spans s < endIn spans s
   pub all : beginIn spans m ≡ n
 
--- the place of a span that does not begin after an entry; and of the one that holds it
+-- the span at place s does not begin after entry i; or s is m, the place behind the last, where all days end
 pub record Reached (spans : List ℕ) (m s i : ℕ) : Type 0 where
   pub within : s ≤ m
   pub begun : beginIn spans s ≤ i
 
+-- the span at place s is one of m, and the day of entry i is among its days
 pub record Holds (spans : List ℕ) (m i s : ℕ) : Type 0 where
   pub within : s < m
   pub begun : beginIn spans s ≤ i
   pub lasts : i < endIn spans s
 
--- THE FOUR SUMS over a span's days, and where each stands among its numbers
+-- THE FOUR SUMS over a span's days: litres, and annual charges, allowances and thresholds × share
 pub data Sum : Type 0 where
   litresSum : Sum
   annualSum : Sum
   allowanceSum : Sum
   thresholdSum : Sum
 
+-- where each stands among the span's numbers
 abbrev pub placeOf : Sum → ℕ
 placeOf litresSum = 4
 placeOf annualSum = 5
 placeOf allowanceSum = 6
 placeOf thresholdSum = 7
 
+-- one of the sums of the span at a place
 abbrev pub sumIn : List ℕ → Sum → ℕ → ℕ
 sumIn spans q s = numberIn spans s (placeOf q)
 
@@ -94,18 +98,19 @@ pub record SumsAdded (before after : List ℕ) (s : ℕ) (x : Sum → ℕ) : Typ
   pub kept : Kept before after
   pub sums : (q : Sum) (t : ℕ) → sumIn after q t ≡ sumIn before q t + only (eqb t s) (x q)
 
--- there is room for that
+-- there is room for that: the span stands in the array, and each sum fits 64 bits
 pub record RoomAt (spans : List ℕ) (s : ℕ) (x : Sum → ℕ) : Type 0 where
   pub within : s * 8 + 8 ≤ length spans
   pub fits : (q : Sum) → sumIn spans q s + x q < 2 ^ 64
 
--- litres alone; and the figures of meters
+-- so many litres for the sums, and no figures of meters
 abbrev pub litresOf : ℕ → Sum → ℕ
 litresOf x litresSum = x
 litresOf x annualSum = 0
 litresOf x allowanceSum = 0
 litresOf x thresholdSum = 0
 
+-- the figures of meters for the sums, and no litres
 abbrev pub figureOf : Figures → Sum → ℕ
 figureOf each litresSum = 0
 figureOf each annualSum = each .annual

@@ -79,7 +79,7 @@ pub fn span_at(spans: &[u64], s: usize) -> Span
     }
 }
 
-// A number of the span at a place.
+// A number of the span at a place becomes a value.
 fn set_number(spans: &mut [u64], s: usize, k: usize, value: u64)
     requires { ⌜ (k < 8) × (s * 8 + 8 ≤ length (now spans)) ⌝ }
     ensures { λ _. ⌜ NumberSet (now (spans .entry)) (now (spans .exit)) s k value ⌝ }
@@ -87,6 +87,7 @@ fn set_number(spans: &mut [u64], s: usize, k: usize, value: u64)
     spans[s * NUMBERS + k] = value;
 }
 
+// A number of the span at a place becomes more.
 fn add_number(spans: &mut [u64], s: usize, k: usize, more: u64)
     requires { ⌜ (k < 8) × (s * 8 + 8 ≤ length (now spans)) × (numberIn (now spans) s k + more < 2 ^ 64) ⌝ }
     ensures { λ _. ⌜ NumberSet (now (spans .entry)) (now (spans .exit)) s k (numberIn (now (spans .entry)) s k + more) ⌝ }

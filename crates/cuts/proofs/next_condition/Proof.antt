@@ -1,37 +1,24 @@
-use native.Mathlib.Omega.{arith}
+-- `cuts::next_condition` meets its contract: what is ahead comes into force, and the next record is read. Assumes nothing.
 use Rattle.cuts.proofs.Walks.{reading-next}
-use mathlib.Core.Path.{refl, ap, _∙_}
-use mathlib.Core.Bool.{cond}
-use lib.Dec.{eqb}
-use Prim.Native.Nat.{_-_, min}
+use mathlib.Core.Path.{refl}
 use borrow.Author.Needs.{needs}
 use Rattle.cuts.proofs.next_condition.Statement.{statement}
 use Rattle.cuts.proofs.next_condition.Tie as tie
-use Rattle.cuts.proofs.next_condition.Reads as reads
-use Rattle.cuts.proofs.next_condition.Lts as lts
-use Rattle.providers.proofs.run_end.Reads as run-end-reads
-use Rattle.records.proofs.condition_day.Reads as condition-day-reads
-use Rattle.records.proofs.condition_groups.Reads as condition-groups-reads
 
--- src/lib.rt:122:9
 condition-groups-requires : tie.Need-condition-groups-requires
 condition-groups-requires c κs = search needs
 
--- src/lib.rt:126:16
 sub-left : tie.Need-sub-left
 sub-left c = search needs
 
--- src/lib.rt:127:39
 condition-day-requires : tie.Need-condition-day-requires
 condition-day-requires c κs = search needs
 
--- src/lib.rt:127:9
 run-end-requires : tie.Need-run-end-requires
 run-end-requires c κs = search needs
 
--- src/lib.rt:118:1
 returns : tie.Need-returns
-returns c = (λ on i u h. reading-next u (c .before .before .before .before .before .before .before .before .pre .0) h (c .before .before .before .before .before .before .condition-groups .ensures) (c .run-end .ensures ∙ ap (λ d. cond (eqb (c .before .before .before .before .before .before .before .before .args .h .left - 1) 0) (c .before .before .before .before .before .before .before .before .args .n) (min (d - c .before .before .before .before .before .before .before .before .args .start) (c .before .before .before .before .before .before .before .before .args .n))) (c .before .condition-day .ensures)), refl)
+returns c = (λ on i u h. reading-next u (c .before .before .before .before .before .before .before .before .pre .0) h (c .before .before .before .before .before .before .condition-groups .ensures) (c .before .condition-day .ensures) (c .run-end .ensures), refl)
 
 pub next-condition-spec : {M : Type 1} → statement M
 next-condition-spec =

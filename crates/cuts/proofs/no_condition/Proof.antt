@@ -1,33 +1,21 @@
-use native.Mathlib.Omega.{arith}
+-- `cuts::no_condition` meets its contract: before the first record all are 0. Assumes nothing.
 use Rattle.cuts.proofs.Walks.{conditions-small, reading-none}
-use mathlib.Core.Path.{refl, ap, _∙_}
-use mathlib.Core.Bool.{cond}
-use lib.Dec.{eqb}
-use Prim.Native.Nat.{_-_, min}
+use mathlib.Core.Path.{refl}
 use borrow.Author.Needs.{needs}
 use Rattle.cuts.proofs.no_condition.Statement.{statement}
 use Rattle.cuts.proofs.no_condition.Tie as tie
-use Rattle.cuts.proofs.no_condition.Reads as reads
-use Rattle.cuts.proofs.no_condition.Lts as lts
-use Rattle.providers.proofs.run_end.Reads as run-end-reads
-use Rattle.records.proofs.condition_day.Reads as condition-day-reads
-use Rattle.records.proofs.condition_groups.Reads as condition-groups-reads
 
--- src/lib.rt:100:9
 condition-groups-requires : tie.Need-condition-groups-requires
 condition-groups-requires c κs = conditions-small 0 0 (c .before .pre)
 
--- src/lib.rt:103:40
 condition-day-requires : tie.Need-condition-day-requires
 condition-day-requires c κs = search needs
 
--- src/lib.rt:103:9
 run-end-requires : tie.Need-run-end-requires
 run-end-requires c κs = search needs
 
--- src/lib.rt:96:1
 returns : tie.Need-returns
-returns c = (reading-none _ _ (c .before .before .before .before .before .before .pre) (c .before .before .before .before .condition-groups .ensures) (c .run-end .ensures ∙ ap (λ d. cond (eqb (c .before .before .before .before .before .before .args .count) 0) (c .before .before .before .before .before .before .args .n) (min (d - c .before .before .before .before .before .before .args .start) (c .before .before .before .before .before .before .args .n))) (c .before .condition-day .ensures)), refl)
+returns c = (reading-none _ _ (c .before .before .before .before .before .before .pre) (c .before .before .before .before .condition-groups .ensures) (c .before .condition-day .ensures) (c .run-end .ensures), refl)
 
 pub no-condition-spec : {M : Type 1} → statement M
 no-condition-spec =

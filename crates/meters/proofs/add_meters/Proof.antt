@@ -1,3 +1,5 @@
+-- `meters::add_meters` meets its contract: what the spans have, and what the meters left will add, is what all of them have (`MetersLeft`). Assumes
+-- nothing.
 use borrow.Author.Needs.{needs}
 use mathlib.Core.Path.{refl}
 use native.Mathlib.Omega.{arith}
@@ -8,9 +10,6 @@ use Rattle.records.proofs.Ahead.{Ahead, ahead-past, ahead-one, ahead-turn, ahea
 use Rattle.meters.proofs.Adding.{MetersLeft, meters-begin, meters-ask, meters-turn, meters-end}
 use Rattle.meters.proofs.add_meters.Statement.{statement}
 use Rattle.meters.proofs.add_meters.Tie as tie
-use Rattle.meters.proofs.add_meters.Reads as reads
-use Rattle.meters.proofs.add_meters.Lts as lts
-use Rattle.meters.proofs.add_meter.Reads as add-meter-reads
 
 abbrev Inv-loop : tie.InvT-loop
 Inv-loop file count bands sizes spans₀ days every₀ next₀ left₀ spans every next left = Ahead (meterAt file) afterMeter left (next .at) (afterMeters (next₀ .at) (metersAt file count (next₀ .at))) (MetersLeft every spans₀ spans (days .count) (days .spans) (days .start) (bandsOf file (bands .count) (bands .first .at)) (metersAt file count (next₀ .at)))
@@ -18,31 +17,24 @@ Inv-loop file count bands sizes spans₀ days every₀ next₀ left₀ spans eve
 abbrev μ-loop : tie.MeasureT-loop
 μ-loop file count bands sizes spans₀ days every₀ next₀ left₀ spans every next left = left
 
--- src/lib.rt:245:5
 loop-holds : tie.Need-loop-holds Inv-loop μ-loop
 loop-holds c = let s = c .before .before .before .args in let g = c .before .before .before .pre .0 in record { ends = refl; holds = meters-begin _ (c .before .before .before .pre .1 .1 .0) (c .before .before .before .pre .1 .1 .1) (c .before .before .before .pre .1 .1 .2) (g .1 .priced) (g .0 .sound) (omega (arith, g .0 .few, length-records (meterAt (now (s .file))) afterMeter (s .count) (s .c .at))) }
 
--- src/lib.rt:246:13
 add-meter-requires : tie.Need-add-meter-requires Inv-loop μ-loop
 add-meter-requires c κs = let g = c .before .before .before .before .before .before .pre .0 in let u = c .before .before .loop .inv in let h = c .before .loop-test .taken in let a = ahead-one u h (refl, refl) (λ ms v. meters-ask _ ms v) in (omega (arith, g .0 .ends, ahead-past u h (refl, refl) meter-forward), ((g .1, c .before .before .before .before .before .before .pre .1 .0), ((a .0, a .1), a .2)))
 
--- src/lib.rt:249:9
 sub-left : tie.Need-sub-left Inv-loop μ-loop
 sub-left c = search needs
 
--- src/lib.rt:245:5
 loop-less : tie.Need-loop-less Inv-loop μ-loop
 loop-less c = search needs
 
--- src/lib.rt:245:5
 loop-again : tie.Need-loop-again Inv-loop μ-loop
 loop-again c = ahead-turn (c .before .before .before .before .before .before .before .loop .inv) (c .before .before .before .before .before .before .loop-test .taken) (refl, c .before .before .before .before .add-meter .ensures .0) (λ ms u. meters-turn _ ms u (c .before .before .before .before .add-meter .ensures .1))
 
--- src/lib.rt:223:1
 same-length : tie.Need-same-length Inv-loop μ-loop
 same-length c = c .before .loop .inv .holds .kept .long
 
--- src/lib.rt:223:1
 returns : tie.Need-returns Inv-loop μ-loop
 returns c = let done = ahead-done (c .before .loop .inv) (omega arith) in (done .0, meters-end (done .1))
 

@@ -1,20 +1,15 @@
+-- `records::condition_groups` meets its contract. Assumes nothing.
 use Rattle.records.proofs.Fields.{condition-taken}
 use borrow.Author.Needs.{needs}
 use Rattle.records.proofs.condition_groups.Statement.{statement}
 use Rattle.records.proofs.condition_groups.Tie as tie
-use Rattle.records.proofs.condition_groups.Reads as reads
-use Rattle.records.proofs.condition_groups.Lts as lts
-use Rattle.bits.proofs.Cursor.take.Reads as take-reads
 
--- src/lib.rt:157:9
 take-requires : tie.Need-take-requires
 take-requires c κs = search needs
 
--- src/lib.rt:158:9
 take-requires-2 : tie.Need-take-requires-2
 take-requires-2 c κs = search needs
 
--- src/lib.rt:153:1
 returns : tie.Need-returns
 returns c = condition-taken (c .before .before .take .ensures) (c .before .take2 .ensures)
 

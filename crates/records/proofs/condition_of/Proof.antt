@@ -1,40 +1,30 @@
+-- `records::condition_of` meets its contract. Assumes nothing.
 use Rattle.records.proofs.Fields.{condition-cut}
 use borrow.Author.Needs.{needs}
 use Rattle.records.proofs.condition_of.Statement.{statement}
 use Rattle.records.proofs.condition_of.Tie as tie
-use Rattle.records.proofs.condition_of.Reads as reads
-use Rattle.records.proofs.condition_of.Lts as lts
-use Rattle.bits.proofs.cut.Reads as cut-reads
 
--- src/lib.rt:181:14
 cut-requires : tie.Need-cut-requires
 cut-requires c κs = search needs
 
--- src/lib.rt:182:17
 cut-requires-2 : tie.Need-cut-requires-2
 cut-requires-2 c κs = search needs
 
--- src/lib.rt:183:23
 cut-requires-3 : tie.Need-cut-requires-3
 cut-requires-3 c κs = search needs
 
--- src/lib.rt:184:19
 cut-requires-4 : tie.Need-cut-requires-4
 cut-requires-4 c κs = search needs
 
--- src/lib.rt:185:16
 cut-requires-5 : tie.Need-cut-requires-5
 cut-requires-5 c κs = search needs
 
--- src/lib.rt:186:20
 cut-requires-6 : tie.Need-cut-requires-6
 cut-requires-6 c κs = search needs
 
--- src/lib.rt:187:21
 cut-requires-7 : tie.Need-cut-requires-7
 cut-requires-7 c κs = search needs
 
--- src/lib.rt:177:1
 returns : tie.Need-returns
 returns c = condition-cut (c .before .before .before .before .before .before .cut .ensures) (c .before .before .before .before .before .cut2 .ensures) (c .before .before .before .before .cut3 .ensures) (c .before .before .before .cut4 .ensures) (c .before .before .cut5 .ensures) (c .before .cut6 .ensures) (c .cut7 .ensures)
 

@@ -1,22 +1,17 @@
+-- `spans::add_litres` meets its contract: one number becomes more, and the others stay. Assumes nothing.
 use Rattle.spans.proofs.Numbers.{litres-added}
 use Rattle.spans.specs.Spans.{litresSum}
 use native.Mathlib.Omega.{arith}
 use borrow.Author.Needs.{needs}
 use Rattle.spans.proofs.add_litres.Statement.{statement}
 use Rattle.spans.proofs.add_litres.Tie as tie
-use Rattle.spans.proofs.add_litres.Reads as reads
-use Rattle.spans.proofs.add_litres.Lts as lts
-use Rattle.spans.proofs.add_number.Reads as add-number-reads
 
--- src/lib.rt:132:5
 add-number-requires : tie.Need-add-number-requires
 add-number-requires c κs = (omega arith, c .before .before .pre .within, c .before .before .pre .fits litresSum)
 
--- src/lib.rt:128:1
 same-length : tie.Need-same-length
 same-length c = search needs
 
--- src/lib.rt:128:1
 returns : tie.Need-returns
 returns c = litres-added _ (c .before .before .add-number .ensures)
 

@@ -1,46 +1,36 @@
+-- `spans::add_number` meets its contract. Assumes nothing.
 use Rattle.spans.proofs.Numbers.{number-set}
 use Rattle.spans.specs.Spans.{numberIn}
 use native.Mathlib.Omega.{arith}
 use borrow.Author.Needs.{needs}
 use Rattle.spans.proofs.add_number.Statement.{statement}
 use Rattle.spans.proofs.add_number.Tie as tie
-use Rattle.spans.proofs.add_number.Reads as reads
-use Rattle.spans.proofs.add_number.Lts as lts
 
--- src/lib.rt:86:14
 mul-at : tie.Need-mul-at
 mul-at c = search needs
 
--- src/lib.rt:86:14
 add-at : tie.Need-add-at
 add-at c = search needs
 
--- src/lib.rt:87:17
 mul-spans : tie.Need-mul-spans
 mul-spans c = search needs
 
--- src/lib.rt:87:17
 slice-read-spans : tie.Need-slice-read-spans
 slice-read-spans c = search needs
 
--- src/lib.rt:87:17
 add-spans : tie.Need-add-spans
 unfolding numberIn
 add-spans c = omega (arith, c .before .pre .2)
 
--- src/lib.rt:87:5
 mul-spans-2 : tie.Need-mul-spans-2
 mul-spans-2 c = search needs
 
--- src/lib.rt:87:5
 slice-write-spans : tie.Need-slice-write-spans
 slice-write-spans c = search needs
 
--- src/lib.rt:82:1
 same-length : tie.Need-same-length
 same-length c = search needs
 
--- src/lib.rt:82:1
 returns : tie.Need-returns
 unfolding numberIn
 returns c = number-set _ _ _ _ (c .before .pre .0) (c .before .pre .1)

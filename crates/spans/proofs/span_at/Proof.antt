@@ -1,111 +1,84 @@
+-- `spans::span_at` meets its contract. Assumes nothing.
 use Rattle.spans.specs.Spans.{spanIn, numberIn}
 use borrow.Author.Needs.{needs}
 use Rattle.spans.proofs.span_at.Statement.{statement}
 use Rattle.spans.proofs.span_at.Tie as tie
-use Rattle.spans.proofs.span_at.Reads as reads
-use Rattle.spans.proofs.span_at.Lts as lts
 
--- src/lib.rt:58:17
 mul-first : tie.Need-mul-first
 mul-first c = search needs
 
--- src/lib.rt:60:22
 add-t5 : tie.Need-add-t5
 add-t5 c = search needs
 
--- src/lib.rt:60:16
 mul-t6 : tie.Need-mul-t6
 mul-t6 c = search needs
 
--- src/lib.rt:60:16
 shared-slice-read-t8 : tie.Need-shared-slice-read-t8
 shared-slice-read-t8 c = search needs
 
--- src/lib.rt:61:25
 add-t9 : tie.Need-add-t9
 add-t9 c = search needs
 
--- src/lib.rt:61:19
 mul-t10 : tie.Need-mul-t10
 mul-t10 c = search needs
 
--- src/lib.rt:61:19
 shared-slice-read-t12 : tie.Need-shared-slice-read-t12
 shared-slice-read-t12 c = search needs
 
--- src/lib.rt:64:20
 add-t5-2 : tie.Need-add-t5-2
 add-t5-2 c = search needs
 
--- src/lib.rt:64:14
 mul-t6-2 : tie.Need-mul-t6-2
 mul-t6-2 c = search needs
 
--- src/lib.rt:64:14
 shared-slice-read-t12-2 : tie.Need-shared-slice-read-t12-2
 shared-slice-read-t12-2 c = search needs
 
--- src/lib.rt:65:25
 add-t10 : tie.Need-add-t10
 add-t10 c = search needs
 
--- src/lib.rt:65:19
 mul-t14 : tie.Need-mul-t14
 mul-t14 c = search needs
 
--- src/lib.rt:65:19
 shared-slice-read-t8-2 : tie.Need-shared-slice-read-t8-2
 shared-slice-read-t8-2 c = search needs
 
--- src/lib.rt:67:23
 add-t16 : tie.Need-add-t16
 add-t16 c = search needs
 
--- src/lib.rt:67:17
 mul-t17 : tie.Need-mul-t17
 mul-t17 c = search needs
 
--- src/lib.rt:67:17
 shared-slice-read-t19 : tie.Need-shared-slice-read-t19
 shared-slice-read-t19 c = search needs
 
--- src/lib.rt:68:23
 add-t20 : tie.Need-add-t20
 add-t20 c = search needs
 
--- src/lib.rt:68:17
 mul-t21 : tie.Need-mul-t21
 mul-t21 c = search needs
 
--- src/lib.rt:68:17
 shared-slice-read-t23 : tie.Need-shared-slice-read-t23
 shared-slice-read-t23 c = search needs
 
--- src/lib.rt:69:26
 add-t24 : tie.Need-add-t24
 add-t24 c = search needs
 
--- src/lib.rt:69:20
 mul-t25 : tie.Need-mul-t25
 mul-t25 c = search needs
 
--- src/lib.rt:69:20
 shared-slice-read-t27 : tie.Need-shared-slice-read-t27
 shared-slice-read-t27 c = search needs
 
--- src/lib.rt:70:26
 add-t28 : tie.Need-add-t28
 add-t28 c = search needs
 
--- src/lib.rt:70:20
 mul-t29 : tie.Need-mul-t29
 mul-t29 c = search needs
 
--- src/lib.rt:70:20
 shared-slice-read-t31 : tie.Need-shared-slice-read-t31
 shared-slice-read-t31 c = search needs
 
--- src/lib.rt:54:1
 returns : tie.Need-returns
 unfolding spanIn numberIn
 returns c = search needs

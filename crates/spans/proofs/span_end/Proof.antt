@@ -1,28 +1,22 @@
+-- `spans::span_end` meets its contract. Assumes nothing.
 use Rattle.spans.specs.Spans.{numberIn}
 use mathlib.Core.Path.{refl}
 use borrow.Author.Needs.{needs}
 use Rattle.spans.proofs.span_end.Statement.{statement}
 use Rattle.spans.proofs.span_end.Tie as tie
-use Rattle.spans.proofs.span_end.Reads as reads
-use Rattle.spans.proofs.span_end.Lts as lts
 
--- src/lib.rt:95:11
 mul-result : tie.Need-mul-result
 mul-result c = search needs
 
--- src/lib.rt:95:11
 add-result : tie.Need-add-result
 add-result c = search needs
 
--- src/lib.rt:95:5
 mul-result-2 : tie.Need-mul-result-2
 mul-result-2 c = search needs
 
--- src/lib.rt:95:5
 shared-slice-read-result : tie.Need-shared-slice-read-result
 shared-slice-read-result c = search needs
 
--- src/lib.rt:91:1
 returns : tie.Need-returns
 unfolding numberIn
 returns c = refl
