@@ -1,8 +1,8 @@
-"""A plot of curves in panels, as SVG: one panel for each count that grows, a line for the unit and one for each fast version."""
+"""A plot of curves in panels, as SVG: one panel for each count that grows, a line for the unit and one for the fast version in Rust."""
 import math
 
 WIDTH, HEIGHT, LEFT, TOP, RIGHT, BOTTOM = 420, 280, 62, 34, 16, 44
-COLOURS = [("unit", "#b5451b"), ("days (the same algorithm in Rust)", "#1f5fa8"), ("spans (another algorithm)", "#2e7d4f")]
+COLOURS = [("unit", "#b5451b"), ("spans (in Rust)", "#1f5fa8")]
 
 
 def step(most):

@@ -1,7 +1,9 @@
-//! The files that are measured. All are made, none is random.
+//! The files that are measured. They are the same in every run: `irregular`
+//! comes of a seed, and the others are made by hand.
 
 use reference::calendar::first_april;
 use reference::file::*;
+use reference::random::Rng;
 
 /// An estate: how many of each record, and of providers in the whole file.
 #[derive(Clone, Copy)]
@@ -120,6 +122,87 @@ fn filled(some: &Estate) -> File {
     file
 }
 
+/// A day of the year.
+fn day(rng: &mut Rng) -> u64 {
+    first_april(YEAR) + rng.below(365)
+}
+
+/// So many days, ascending: one before the year, the others within it.
+fn days(rng: &mut Rng, count: usize) -> Vec<u64> {
+    let mut days = vec![first_april(YEAR) - rng.between(1, 300)];
+    while days.len() < count {
+        let day = day(rng);
+        if !days.contains(&day) {
+            days.push(day);
+        }
+    }
+    days.sort_unstable();
+    days
+}
+
+/// What the estates have alike differs here: the days between reads and the
+/// slope of each advance, shares and returns, sizes and dials, and from when to
+/// when a point or a meter is there.
+fn irregular() -> File {
+    let mut rng = Rng::new(1);
+    let points = (0..32).map(|place| irregular_point(&mut rng, place)).collect();
+    File { header: header(), bands: (0..12).map(band).collect(), points }
+}
+
+fn irregular_point(rng: &mut Rng, place: u64) -> Point {
+    let connected = if rng.one_in(4) { day(rng) } else { first_april(YEAR) - 1 };
+    let removed = connected + rng.between(0, 365);
+    let transfer = |day: u64, rng: &mut Rng| Transfer { day, provider: 1 + rng.below(16) * 97 };
+    let condition = |day: u64, rng: &mut Rng| Condition {
+        day,
+        vacant: rng.one_in(6),
+        disconnected: rng.one_in(6),
+        property: !rng.one_in(3),
+        roads: !rng.one_in(3),
+        schedule3: rng.below(5_000),
+        section29e: rng.below(5_000),
+        value: rng.between(1_000, 100_000),
+    };
+    Point {
+        number: 1_000 + place,
+        connected,
+        disconnected: if rng.one_in(8) { removed } else { NONE },
+        transfers: days(rng, 6).into_iter().map(|day| transfer(day, rng)).collect(),
+        conditions: days(rng, 6).into_iter().map(|day| condition(day, rng)).collect(),
+        meters: (0..6).map(|_| irregular_meter(rng)).collect(),
+    }
+}
+
+/// Its reads go on past the year, unless it is removed before that; the dial
+/// may turn over.
+fn irregular_meter(rng: &mut Rng) -> Meter {
+    let digits = rng.between(4, 8);
+    let dial = 10_u64.pow(digits as u32);
+    let installed = if rng.one_in(4) { day(rng) } else { first_april(YEAR) - 60 };
+    let removed = if rng.one_in(4) { installed + rng.between(30, 300) } else { NONE };
+    let mut day = installed + rng.below(30);
+    let mut value = dial - rng.between(1, 4_000);
+    let mut reads = vec![Read { day, rollover: false, value }];
+    while reads.len() < 20 {
+        day += rng.between(1, 50);
+        if day > removed {
+            break;
+        }
+        let next = (value + rng.below(1_000)) % dial;
+        reads.push(Read { day, rollover: next < value, value: next });
+        value = next;
+    }
+    Meter {
+        size: rng.below(120),
+        share: rng.between(1, 100),
+        return_to_sewer: rng.between(1, 100),
+        digits,
+        installed,
+        removed,
+        reads,
+    }
+}
+
 /// The files by name, with what they are.
 pub fn all() -> Vec<(&'static str, &'static str, Vec<u8>)> {
     let fullest = Estate {
@@ -148,6 +231,11 @@ pub fn all() -> Vec<(&'static str, &'static str, Vec<u8>)> {
             "crowded",
             "64 points, 24 transfers, 48 conditions, 4 meters, 22 or 23 reads, 64 providers",
             filled(&crowded).to_bytes(),
+        ),
+        (
+            "irregular",
+            "32 points, 6 transfers, 6 conditions, 6 meters, up to 20 irregular reads, 16 providers",
+            irregular().to_bytes(),
         ),
         ("refused", "typical, the last read past its dial: 4", refused),
         ("refused-last", "fullest, a padding bit set: 12", refused_last),

@@ -1,4 +1,4 @@
-//! The four report services behind one signature, and the files on which they
+//! The three report services behind one signature, and the files on which they
 //! are measured.
 
 pub mod inputs;
@@ -33,17 +33,12 @@ macro_rules! service {
     };
 }
 
-// The unit's algorithm, another one, and the second implementation.
-service!(days_report, days::report);
+// The fast version in Rust, and the second implementation.
 service!(spans_report, spans::report);
 service!(second_report, reference::services::report);
 
-pub const SERVICES: [(&str, Service); 4] = [
-    ("unit", settlement_report),
-    ("days", days_report),
-    ("spans", spans_report),
-    ("second", second_report),
-];
+pub const SERVICES: [(&str, Service); 3] =
+    [("unit", settlement_report), ("spans", spans_report), ("second", second_report)];
 
 /// Calls a service.
 #[inline(always)]

@@ -129,7 +129,7 @@ fn main() {
             for (what, count, file) in inputs::growth() {
                 let name = format!("{what}-{count}");
                 agree(&name, &file);
-                line(&name, &measure(&SERVICES[..3], &file, rounds.parse().expect("a number")));
+                line(&name, &measure(&SERVICES[..2], &file, rounds.parse().expect("a number")));
             }
         }
         ["stack"] => {

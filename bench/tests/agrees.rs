@@ -1,5 +1,5 @@
-//! The unit, the two fast versions and the second implementation on random
-//! files: the same answer, and the same bytes in the lent space.
+//! The unit, the fast version and the second implementation on random files:
+//! the same answer, and the same bytes in the lent space.
 
 use bench::{call, SERVICES};
 use reference::random::{case, Sort};

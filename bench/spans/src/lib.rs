@@ -1,5 +1,5 @@
-//! The report service by another algorithm than the unit's: what that would
-//! give.
+//! The report service in Rust, written for speed: what the unit's time is
+//! measured against. Nothing is allocated.
 //!
 //! One pass over the file. Where the records of a point have passed, it is
 //! settled by spans: the charged days are cut at its transfers and conditions,
@@ -8,11 +8,15 @@
 //! written when the whole file has passed, so that a refused call leaves the
 //! space as found.
 
+mod check;
+mod records;
+mod report;
 mod settle;
+mod table;
+mod year;
 
 use settle::Point;
-use shared::year::Year;
-use shared::{check, report};
+use year::Year;
 
 /// The length of the report written at the front of the space, or the number
 /// of the first breach.

@@ -1,30 +1,8 @@
-//! Judging a file by 1 to 12, in one pass. Who wants to do more in that pass
-//! is handed each record that has passed.
+//! Judging a file by 1 to 12, in one pass. Each record that has passed is
+//! handed to the point that is settled.
 
 use crate::records::*;
-
-/// What is done with the records that have passed, in the file's order. By
-/// itself nothing is.
-pub trait Keep {
-    #[inline(always)]
-    fn band(&mut self, _place: usize, _: &Band) {}
-    #[inline(always)]
-    fn point(&mut self, _: &Point) {}
-    #[inline(always)]
-    fn transfer(&mut self, _: &Transfer) {}
-    #[inline(always)]
-    fn condition(&mut self, _: &Condition) {}
-    /// The point's transfers and conditions are all there.
-    #[inline(always)]
-    fn meters(&mut self) {}
-    #[inline(always)]
-    fn meter(&mut self, _: &Meter) {}
-    #[inline(always)]
-    fn advance(&mut self, _: &Advance) {}
-    /// The point has passed.
-    #[inline(always)]
-    fn end(&mut self) {}
-}
+use crate::settle;
 
 /// How many records of a width are left, at most as many as wanted.
 #[inline(always)]
@@ -70,12 +48,12 @@ pub fn header(file: &[u8]) -> Result<(Header, Cursor<'_>), u32> {
 
 /// Judges all that follows a header that has passed.
 #[inline(always)]
-pub fn records(header: &Header, from: Cursor, keep: &mut impl Keep) -> Result<(), u32> {
+pub fn records(header: &Header, from: Cursor, settling: &mut settle::Point) -> Result<(), u32> {
     let mut cursor = from;
-    bands(&mut cursor, header.bands, keep)?;
+    bands(&mut cursor, header.bands, settling)?;
     let mut lowest = 0;
     for _ in 0..header.points {
-        lowest = point(&mut cursor, header.sewerage, lowest, keep)?;
+        lowest = point(&mut cursor, header.sewerage, lowest, settling)?;
     }
     let left = cursor.left();
     if left >= 8 || left > 0 && field(cursor.bits(0), 0, left as u32) != 0 {
@@ -85,7 +63,7 @@ pub fn records(header: &Header, from: Cursor, keep: &mut impl Keep) -> Result<()
 }
 
 #[inline(always)]
-fn bands(cursor: &mut Cursor, count: u64, keep: &mut impl Keep) -> Result<(), u32> {
+fn bands(cursor: &mut Cursor, count: u64, settling: &mut settle::Point) -> Result<(), u32> {
     let mut least = 0;
     let whole = whole(cursor, BAND, count);
     for place in 0..whole {
@@ -102,7 +80,7 @@ fn bands(cursor: &mut Cursor, count: u64, keep: &mut impl Keep) -> Result<(), u3
             return Err(5);
         }
         least = band.size + 1;
-        keep.band(place as usize, &band);
+        settling.band(place as usize, &band);
     }
     all(whole, count)
 }
@@ -113,7 +91,7 @@ fn point(
     cursor: &mut Cursor,
     sewerage: bool,
     lowest: u64,
-    keep: &mut impl Keep,
+    settling: &mut settle::Point,
 ) -> Result<u64, u32> {
     if cursor.left() < POINT {
         return Err(2);
@@ -132,19 +110,19 @@ fn point(
     if point.disconnected < point.connected {
         return Err(8);
     }
-    keep.point(&point);
-    transfers(cursor, &point, keep)?;
-    conditions(cursor, &point, sewerage, keep)?;
-    keep.meters();
+    settling.point(&point);
+    transfers(cursor, &point, settling)?;
+    conditions(cursor, &point, sewerage, settling)?;
+    settling.meters();
     for _ in 0..point.meters {
-        meter(cursor, sewerage, keep)?;
+        meter(cursor, sewerage, settling)?;
     }
-    keep.end();
+    settling.end();
     Ok(point.number + 1)
 }
 
 #[inline(always)]
-fn transfers(cursor: &mut Cursor, point: &Point, keep: &mut impl Keep) -> Result<(), u32> {
+fn transfers(cursor: &mut Cursor, point: &Point, settling: &mut settle::Point) -> Result<(), u32> {
     let mut least = 0;
     let mut most = point.connected;
     let whole = whole(cursor, TRANSFER, point.transfers);
@@ -160,7 +138,7 @@ fn transfers(cursor: &mut Cursor, point: &Point, keep: &mut impl Keep) -> Result
             return Err(6);
         }
         (least, most) = (transfer.day + 1, NONE);
-        keep.transfer(&transfer);
+        settling.transfer(&transfer);
     }
     all(whole, point.transfers)
 }
@@ -170,7 +148,7 @@ fn conditions(
     cursor: &mut Cursor,
     point: &Point,
     sewerage: bool,
-    keep: &mut impl Keep,
+    settling: &mut settle::Point,
 ) -> Result<(), u32> {
     let mut least = 0;
     let flags_allowed = if sewerage { 15 } else { VACANT | DISCONNECTED };
@@ -192,13 +170,13 @@ fn conditions(
             return Err(7);
         }
         least = condition.day + 1;
-        keep.condition(&condition);
+        settling.condition(&condition);
     }
     all(whole, point.conditions)
 }
 
 #[inline(always)]
-fn meter(cursor: &mut Cursor, sewerage: bool, keep: &mut impl Keep) -> Result<(), u32> {
+fn meter(cursor: &mut Cursor, sewerage: bool, settling: &mut settle::Point) -> Result<(), u32> {
     if cursor.left() < METER {
         return Err(2);
     }
@@ -216,7 +194,7 @@ fn meter(cursor: &mut Cursor, sewerage: bool, keep: &mut impl Keep) -> Result<()
     if meter.removed < meter.installed {
         return Err(8);
     }
-    keep.meter(&meter);
+    settling.meter(&meter);
     let turn = meter.turn();
     let mut least = 0;
     let mut earlier = Read::default();
@@ -240,7 +218,7 @@ fn meter(cursor: &mut Cursor, sewerage: bool, keep: &mut impl Keep) -> Result<()
             if read.day - earlier.day > 3_660 {
                 return Err(11);
             }
-            keep.advance(&Advance::between(&meter, &earlier, &read));
+            settling.advance(&Advance::between(&meter, &earlier, &read));
         }
         least = read.day + 1;
         earlier = read;
