@@ -2,7 +2,7 @@
 use Prim.Native.Nat.{ℕ, zero, suc, _+_, _-_, _*_, _/_, _≤_, _<_, min}
 use mathlib.Core.Path.{_≡_, refl, sym, ap, _∙_, subst}
 use mathlib.Core.List.{List, [], _∷_}
-use native.Mathlib.Nat.{pow-le-pow-right, mul-le-mul, mul-le-mul-left, mul-zero, zero-div, mul-div-mul-right}
+use native.Mathlib.Nat.{le-refl, pow-le-pow-right, mul-le-mul, mul-le-mul-left, mul-zero, zero-div, mul-div-mul-right}
 use native.Mathlib.Omega.{arith}
 use Rattle.rules.specs.declared.Read.{Read}
 use Rattle.rules.specs.declared.MeterHead.{MeterHead}
@@ -16,7 +16,7 @@ use Rattle.rules.proofs.Sums.{days-shift}
 use Rattle.records.proofs.Positions.{length-records}
 use Rattle.records.proofs.Ahead.{Ahead, read-one, read-past, ahead-done}
 use Rattle.spans.specs.Spans.{endIn, Cut, Reached, Holds, SumsAdded, RoomAt, Sum, litresSum, annualSum, allowanceSum, thresholdSum, litresOf, during, Grown, Room}
-use Rattle.spans.proofs.Days.{during-none, during-zero, during-entry, grown-on, grown-none, room-on, Adding, adding-none, adding-asks, adding-room, adding-more, reached-first, cut-same, reached-same, reached-before, Rest, rest-all, rest-room, rest-more, rest-none}
+use Rattle.spans.proofs.Days.{during-none, during-zero, during-entry, span-within, grown-on, grown-none, room-on, Adding, adding-none, adding-asks, adding-room, adding-more, reached-first, cut-same, reached-same, reached-before, Rest, rest-all, rest-room, rest-more, rest-none}
 use Rattle.meters.specs.declared.Advance.{Advance}
 use Rattle.meters.specs.Meters.{carried, spread, spreadOf, Spreadable, meterOf, AdvanceOf}
 
@@ -170,6 +170,39 @@ module _ {n k start : ℕ} {a : Advance} {l spans : List ℕ} {from to s i below
         grown-on (u .adding .cut) (λ q j b. rw (e, u .low, u .top) (spread-entry n start (a .litres) (a .parts) (a .first) (a .last) q j b)) (u .adding .grown),
         subst (Reached l k s) (e ∙ u .top) (u .adding .reached),
       )
+
+-- ONE SPAN that holds all days of an advance has it whole
+module _ (n k start : ℕ) (a : Advance) {l : List ℕ} {s : ℕ} (cut : Cut l n k) (sp : Spreadable (a .litres) (a .parts) (a .first) (a .last)) (r : Reached l k s (min (a .first - start) n))
+    (holds : (s < k) × (start ≤ a .first) × (a .last - start ≤ endIn l s)) where
+  abbrev from : ℕ
+  from = min (a .first - start) n
+
+  abbrev to : ℕ
+  to = min (a .last - start) n
+
+  some-day : from < to
+  some-day = omega (arith, sp .some, holds .1, holds .2, span-within cut s (holds .0))
+
+  none-taken : Advancing n k start a l l from to s from 0
+  none-taken = advancing-begin n k start a refl refl some-day cut r (carried-none (a .litres) (a .parts) (a .last - a .first) (omega (arith, holds .1)))
+
+  held : Holds l k from s
+  held = record { within = holds .0; begun = r .begun; lasts = omega (arith, some-day, holds .2) }
+
+  whole : a .litres * a .parts / 10000 ≡ carriedBefore (a .litres) (a .parts) (a .last - a .first) (start + to - a .first)
+  whole = carried-all (a .litres) (a .parts) (a .last - a .first) (omega (arith, sp .some)) (omega (arith, sp .some, holds .1, holds .2, span-within cut s (holds .0)))
+
+  stops : to ≡ min (endIn l s) to
+  stops = omega (arith, holds .2)
+
+  less-none : a .litres * a .parts / 10000 - 0 ≡ a .litres * a .parts / 10000
+  less-none = omega arith
+
+  pub whole-room : Room l k (λ q j. litresOf (spreadOf a (start + j)) q) → RoomAt l s (litresOf (a .litres * a .parts / 10000))
+  whole-room room = subst (λ x. RoomAt l s (litresOf x)) less-none (advancing-room none-taken held refl stops some-day whole room)
+
+  pub whole-added : {next : List ℕ} → SumsAdded l next s (litresOf (a .litres * a .parts / 10000)) → Grown l next k (λ q j. litresOf (spreadOf a (start + j)) q) × Reached l k s (min (a .last - start) n)
+  whole-added {next} v = advancing-end (advancing-turn none-taken held refl stops some-day whole (subst (λ x. SumsAdded l next s (litresOf x)) (sym less-none) v)) (le-refl to)
 
 -- BETWEEN TWO READS
 dial-most : {m : MeterHead} → GoodMeterHead m → dialValues (m .digits) ≤ 100000000

@@ -4,11 +4,11 @@ ghost use mathlib.Core.Path.{_≡_};
 ghost use Prim.Native.Nat.{_+_, _-_, _*_, _≤_, _<_, _^_, min};
 ghost use mathlib.Core.List.{[]};
 ghost use Rattle.rules.specs.File.{reads, bands as bandsFrom, meterAt, meters as metersFrom, afterReads, afterMeter, afterMeters};
-ghost use Rattle.rules.specs.Litres.{advance, carriedBefore, meterLitres};
+ghost use Rattle.rules.specs.Litres.{dialValues, advance, carriedBefore, meterLitres};
 ghost use Rattle.rules.specs.Good.{GoodMeterHead, GoodRead, GoodAdvance, GoodMeter};
 ghost use Rattle.bands.specs.Bands.{SizesOf};
 ghost use mathlib.Core.Bool.{true};
-ghost use Rattle.spans.specs.Spans.{Cut, Reached, litresOf, figureOf, during, Grown, Room};
+ghost use Rattle.spans.specs.Spans.{endIn, Cut, Reached, litresOf, figureOf, during, Grown, Room};
 ghost use Rattle.meters.specs.Meters.{Spreadable, spreadOf, meterOf, AdvanceOf, Weights, Sums, meterFigure, RoomWith, GrownWith, GoodBands, GoodMeters, SumsClear, MetersIn};
 use bands::band_for;
 use bits::Cursor;
@@ -76,21 +76,52 @@ fn add_advance(spans: &mut [u64], days: SpanDays, from: usize, a: Advance) -> us
     s
 }
 
-// What the dial counts between two successive reads, in cubic metres.
-fn counts_between(head: MeterHead, earlier: Read, later: Read) -> u64
-    requires { ⌜ GoodMeterHead head × GoodRead head earlier × GoodAdvance head earlier later ⌝ }
+// Whether the span at a place holds all days of an advance that it does not begin after.
+fn holds_all(spans: &[u64], days: SpanDays, s: usize, a: Advance) -> bool
+    requires { ⌜ Cut (now spans) (days .count) (days .spans) × (a .first < a .last) ⌝ }
+    ensures { λ r. ⌜ (r ≡ true → (s < days .spans) × (days .start ≤ a .first) × (a .last - days .start ≤ endIn (now (spans .entry)) s)) ⌝ }
+{
+    if days.spans <= s {
+        return false;
+    }
+    if a.first < days.start {
+        return false;
+    }
+    if (span_end(spans, s) as u64) < a.last - days.start {
+        return false;
+    }
+    true
+}
+
+// An advance that one span holds, as most are held, is added to it whole, and none of its days is asked for. Any other is cut at the spans' ends.
+fn spread_advance(spans: &mut [u64], days: SpanDays, from: usize, a: Advance) -> usize
+    requires { ⌜ Cut (now spans) (days .count) (days .spans) × Spreadable (a .litres) (a .parts) (a .first) (a .last) ⌝ }
+    requires { ⌜ Reached (now spans) (days .spans) «from» (min (a .first - days .start) (days .count)) ⌝ }
+    requires { ⌜ Room (now spans) (days .spans) (λ q i. litresOf (spreadOf a (days .start + i)) q) ⌝ }
+    ensures added { λ _. ⌜ Grown (now (spans .entry)) (now (spans .exit)) (days .spans) (λ q i. litresOf (spreadOf a (days .start + i)) q) ⌝ }
+    ensures reached { λ r. ⌜ Reached (now (spans .entry)) (days .spans) r (min (a .last - days .start) (days .count)) ⌝ }
+{
+    if holds_all(spans, days, from, a) {
+        add_litres(spans, from, a.litres * a.parts / 10000);
+        return from;
+    }
+    add_advance(spans, days, from, a)
+}
+
+// What the dial counts between two successive reads, in cubic metres; it has so many values.
+fn counts_between(head: MeterHead, dial: u64, earlier: Read, later: Read) -> u64
+    requires { ⌜ GoodMeterHead head × GoodRead head earlier × GoodAdvance head earlier later × (dial ≡ dialValues (head .digits)) ⌝ }
     ensures { λ r. ⌜ (r * 1000 ≡ advance (meterOf head []) earlier later) × (r * 1000 ≤ 100000000000) ⌝ }
 {
-    let dial = dial_values(head.digits);
     later.value + later.rollover * dial - earlier.value
 }
 
-// The advance between two successive reads of a meter.
-fn advance_of(head: MeterHead, earlier: Read, later: Read) -> Advance
-    requires { ⌜ GoodMeterHead head × GoodRead head earlier × GoodAdvance head earlier later ⌝ }
+// The advance between two successive reads of a meter, whose dial has so many values.
+fn advance_of(head: MeterHead, dial: u64, earlier: Read, later: Read) -> Advance
+    requires { ⌜ GoodMeterHead head × GoodRead head earlier × GoodAdvance head earlier later × (dial ≡ dialValues (head .digits)) ⌝ }
     ensures { λ r. ⌜ AdvanceOf head earlier later r ⌝ }
 {
-    let counts = counts_between(head, earlier, later);
+    let counts = counts_between(head, dial, earlier, later);
     Advance {
         litres: counts * 1000,
         parts: head.share * head.returned,
@@ -115,11 +146,12 @@ fn add_reads(file: &[u8], c: Cursor, head: MeterHead, spans: &mut [u64], days: S
     let mut next = first.next;
     let mut s: usize = 0;
     let mut left = head.reads - 1;
+    let dial = dial_values(head.digits);
     while 0 < left {
         let taken = records::read(file, next);
         let later = taken.value;
-        let advance = advance_of(head, earlier, later);
-        s = add_advance(spans, days, s, advance);
+        let advance = advance_of(head, dial, earlier, later);
+        s = spread_advance(spans, days, s, advance);
         earlier = later;
         next = taken.next;
         left -= 1;
