@@ -1,6 +1,7 @@
 -- What the meters of a point have on its days, and what is said of the spans that they are added to.
 use Prim.Native.Nat.{ℕ, _+_, _-_, _*_, _^_, _≤_, _<_}
 use mathlib.Core.Path.{_≡_}
+use mathlib.Core.Bool.{Bool, true, false}
 use mathlib.Core.List.{List, [], map}
 use Rattle.rules.specs.declared.Band.{Band}
 use Rattle.rules.specs.declared.Read.{Read}
@@ -14,6 +15,11 @@ use Rattle.rules.specs.Good.{GoodBand, GoodMeter}
 use Rattle.spans.specs.declared.Figures.{Figures}
 use Rattle.spans.specs.Spans.{endIn, beginIn, Sum, litresSum, annualSum, allowanceSum, thresholdSum, sumIn, Kept, figureOf, during, overSpan}
 use Rattle.meters.specs.declared.Advance.{Advance}
+
+-- an answer says whether a fact holds
+pub record Says (r : Bool) (fact : Type 0) : Type 0 where
+  pub yes : r ≡ true → fact
+  pub no : r ≡ false → fact → ⊥
 
 -- what day d of an advance of so many litres carries, at `parts` ten-thousandths (share × return)
 unfoldable pub carried : ℕ → ℕ → ℕ → ℕ → ℕ → ℕ

@@ -7,9 +7,8 @@ ghost use Rattle.rules.specs.File.{reads, bands as bandsFrom, meterAt, meters a
 ghost use Rattle.rules.specs.Litres.{dialValues, advance, carriedBefore, meterLitres};
 ghost use Rattle.rules.specs.Good.{GoodMeterHead, GoodRead, GoodAdvance, GoodMeter};
 ghost use Rattle.bands.specs.Bands.{SizesOf};
-ghost use mathlib.Core.Bool.{true};
 ghost use Rattle.spans.specs.Spans.{endIn, Cut, Reached, litresOf, figureOf, during, Grown, Room};
-ghost use Rattle.meters.specs.Meters.{Spreadable, spreadOf, meterOf, AdvanceOf, Weights, Sums, meterFigure, RoomWith, GrownWith, GoodBands, GoodMeters, SumsClear, MetersIn};
+ghost use Rattle.meters.specs.Meters.{Says, Spreadable, spreadOf, meterOf, AdvanceOf, Weights, Sums, meterFigure, RoomWith, GrownWith, GoodBands, GoodMeters, SumsClear, MetersIn};
 use bands::band_for;
 use bits::Cursor;
 use charged::entry;
@@ -79,7 +78,7 @@ fn add_advance(spans: &mut [u64], days: SpanDays, from: usize, a: Advance) -> us
 // Whether the span at a place holds all days of an advance that it does not begin after.
 fn holds_all(spans: &[u64], days: SpanDays, s: usize, a: Advance) -> bool
     requires { ⌜ Cut (now spans) (days .count) (days .spans) × (a .first < a .last) ⌝ }
-    ensures { λ r. ⌜ (r ≡ true → (s < days .spans) × (days .start ≤ a .first) × (a .last - days .start ≤ endIn (now (spans .entry)) s)) ⌝ }
+    ensures { λ r. ⌜ Says r ((s < days .spans) × (days .start ≤ a .first) × (a .last - days .start ≤ endIn (now (spans .entry)) s)) ⌝ }
 {
     if days.spans <= s {
         return false;
@@ -185,7 +184,7 @@ fn both(a: Figures, b: Figures) -> Figures
 
 // Whether there is a day, and entries from one on, before another, are all there are.
 fn on_all_days(days: SpanDays, from: usize, to: usize) -> bool
-    ensures { λ r. ⌜ (r ≡ true → («from» ≡ 0) × (to ≡ days .count) × (0 < to)) ⌝ }
+    ensures { λ r. ⌜ Says r ((«from» ≡ 0) × (to ≡ days .count) × (0 < to)) ⌝ }
 {
     if from != 0 {
         return false;
@@ -193,7 +192,10 @@ fn on_all_days(days: SpanDays, from: usize, to: usize) -> bool
     if to != days.count {
         return false;
     }
-    0 < to
+    if to == 0 {
+        return false;
+    }
+    true
 }
 
 // Where a tariff's bands begin, and how many there are.

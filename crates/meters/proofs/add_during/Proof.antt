@@ -15,10 +15,10 @@ on-all-days-requires : tie.Need-on-all-days-requires
 on-all-days-requires c κs = search needs
 
 both-requires : tie.Need-both-requires
-both-requires c κs = every-fits _ _ _ _ _ _ _ (c .before .before .before .before .before .pre .0) (c .before .before .before .entry .ensures) (c .before .before .entry2 .ensures) (c .before .on-all-days .ensures (c .if1 .taken)) (c .before .before .before .before .before .pre .1)
+both-requires c κs = every-fits _ _ _ _ _ _ _ (c .before .before .before .before .before .pre .0) (c .before .before .before .entry .ensures) (c .before .before .entry2 .ensures) (c .before .on-all-days .ensures .yes (c .if1 .taken)) (c .before .before .before .before .before .pre .1)
 
 returns : tie.Need-returns
-returns c = figures-every _ _ _ _ _ _ _ (c .before .before .before .before .before .before .pre .0) (c .before .before .before .before .entry .ensures) (c .before .before .before .entry2 .ensures) (c .before .before .on-all-days .ensures (c .before .if1 .taken)) (c .both .ensures)
+returns c = figures-every _ _ _ _ _ _ _ (c .before .before .before .before .before .before .pre .0) (c .before .before .before .before .entry .ensures) (c .before .before .before .entry2 .ensures) (c .before .before .on-all-days .ensures .yes (c .before .if1 .taken)) (c .both .ensures)
 
 add-figures-requires : tie.Need-add-figures-requires
 add-figures-requires c κs = ((c .before .before .before .before .before .before .pre .0, omega (arith, c .before .before .before .entry2 .ensures)), figures-ask _ _ _ _ _ _ _ (c .before .before .before .before .before .before .pre .0) (c .before .before .before .before .entry .ensures) (c .before .before .before .entry2 .ensures) (c .before .before .before .before .before .before .pre .1))

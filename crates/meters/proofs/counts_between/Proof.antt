@@ -4,7 +4,6 @@ use mathlib.Core.Path.{ap}
 use native.Mathlib.Omega.{arith}
 use Rattle.rules.specs.Litres.{litresPerCount, advance}
 use Rattle.meters.proofs.Advances.{advance-fits}
-use borrow.Author.Needs.{needs}
 use Rattle.meters.proofs.counts_between.Statement.{statement}
 use Rattle.meters.proofs.counts_between.Tie as tie
 

@@ -12,13 +12,13 @@ mul-add-litres : tie.Need-mul-add-litres
 mul-add-litres c = omega (arith, amount-fits (c .before .before .before .before .before .before .pre .0 .1))
 
 add-litres-requires : tie.Need-add-litres-requires
-add-litres-requires c κs = let p = c .before .before .before .before .before .before .pre in whole-room _ _ _ _ (p .0 .0) (p .0 .1) (p .1 .0) (c .before .before .before .holds-all .ensures (c .before .before .if1 .taken)) (p .1 .1)
+add-litres-requires c κs = let p = c .before .before .before .before .before .before .pre in whole-room _ _ _ _ (p .0 .0) (p .0 .1) (p .1 .0) (c .before .before .before .holds-all .ensures .yes (c .before .before .if1 .taken)) (p .1 .1)
 
 same-length : tie.Need-same-length
 same-length c = search needs
 
 returns : tie.Need-returns
-returns c = let p = c .before .before .before .before .before .before .before .before .before .pre in whole-added _ _ _ _ (p .0 .0) (p .0 .1) (p .1 .0) (c .before .before .before .before .before .before .holds-all .ensures (c .before .before .before .before .before .if1 .taken)) (c .before .before .add-litres .ensures)
+returns c = let p = c .before .before .before .before .before .before .before .before .before .pre in whole-added _ _ _ _ (p .0 .0) (p .0 .1) (p .1 .0) (c .before .before .before .before .before .before .holds-all .ensures .yes (c .before .before .before .before .before .if1 .taken)) (c .before .before .add-litres .ensures)
 
 add-advance-requires : tie.Need-add-advance-requires
 add-advance-requires c κs = search needs
