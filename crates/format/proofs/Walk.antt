@@ -10,9 +10,9 @@ use Rattle.rules.specs.declared.Header.{Header}
 use Rattle.rules.specs.declared.PointHead.{PointHead}
 use Rattle.rules.specs.declared.MeterHead.{MeterHead}
 use Rattle.rules.specs.File.{headerAt, bandsAt}
-use Rattle.rules.specs.Refusal.{headerRule, paddingNumber, firstOr, fileRefusal}
+use Rattle.rules.specs.Refusal.{headerRule, bandRule, pointRule, transferRule, conditionRule, meterRule, readRule, paddingNumber, firstOr, fileRefusal}
 use Rattle.rules.proofs.Fields.{field-lt}
-use Rattle.rules.proofs.Passed.{good-header, good-band, good-point, good-transfer, good-condition, good-meter, good-read}
+use Rattle.rules.proofs.Judged.{lacks-none}
 use Rattle.format.proofs.Rest.{Kind, bandList, transferList, conditionList, readList, meterList, pointList, Head, State, headAt, past, rule, Rest, list, padding, onward, opened, restNumber, end, first-stop, first-go, list-done, list-turn, file-turn, padding-turn}
 
 -- the refusal of the whole file is that of what is still to come, and the position is within the file
@@ -42,12 +42,13 @@ readsLeft h p lowest point m meter r from until before = list (readList meter) (
 
 -- a record without a breach ends within the file
 fits : (b : List ℕ) (kind : Kind) (next : ℕ) (s : State kind) (v : Head kind) → rule b kind next s v ≡ 0 → next ≤ end b
-fits b bandList next s v z = good-band _ _ _ v z .0
-fits b transferList next s v z = good-transfer _ _ _ _ v z .0
-fits b (conditionList service) next s v z = good-condition _ _ _ _ v z .0
-fits b (readList m) next s v z = good-read _ _ _ _ _ _ v z .0
-fits b (meterList service) next s v z = good-meter _ _ _ v z .0
-fits b (pointList service) next s v z = good-point _ _ _ v z .0
+unfolding bandRule transferRule conditionRule readRule meterRule pointRule
+fits b bandList next s v z = lacks-none _ _ _ z
+fits b transferList next s v z = lacks-none _ _ _ z
+fits b (conditionList service) next s v z = lacks-none _ _ _ z
+fits b (readList m) next s v z = lacks-none _ _ _ z
+fits b (meterList service) next s v z = lacks-none _ _ _ z
+fits b (pointList service) next s v z = lacks-none _ _ _ z
 
 -- a record's first field, which is the key of a list that ascends; by its width there is room for more
 abbrev key : (kind : Kind) → Head kind → ℕ
@@ -99,7 +100,8 @@ module _ (b : List ℕ) {v : Header} {next number : ℕ} (short : length b ≤ 6
   header-stops h = sym (judged-header ∙ first-stop _ _ h)
 
   pub opens : number ≡ 0 → At b next (opened v)
-  opens h = let g = good-header _ v (sym j ∙ h) in record { whole = judged-header ∙ first-go _ _ h; short = short; within = omega (arith, g .0, f .1) }
+  unfolding headerRule
+  opens h = let ends = lacks-none (end b) bandsAt _ (sym j ∙ h) in record { whole = judged-header ∙ first-go _ _ h; short = short; within = omega (arith, ends, f .1) }
 
 pub file-ends : {b : List ℕ} {at number : ℕ} → At b at padding → number ≡ paddingNumber b at → number ≡ fileRefusal b
 file-ends {b} {at} a e = e ∙ sym (a .whole ∙ padding-turn b at)

@@ -6,8 +6,8 @@ use mathlib.Core.List.{List, [], _∷_, map, map-map}
 use native.Mathlib.Nat.{div-add-mod', mod-lt}
 use native.Mathlib.Omega.{arith}
 use lib.Dec.{eqb}
-use lib.ListN.{length, getD, take, drop, replicate}
-use lib.Seq.{take-append-seam}
+use lib.ListN.{length, getD, replicate}
+use borrow.Author.Tests.{le-ltb}
 use Rattle.rules.specs.declared.Row.{Row}
 use Rattle.rules.specs.Sums.{only, over, overDays}
 use Rattle.rules.specs.Lists.{All}
@@ -17,7 +17,8 @@ use Rattle.rules.specs.Refusal.{fileRefusal, firstOr, refusal}
 use Rattle.rules.specs.Good.{Good}
 use Rattle.rules.specs.Charges.{chargedFrom, chargedCount, overCharged, Charge, meterCharge, volumetricCharge, drainageCharge, charges}
 use Rattle.rules.specs.Settlement.{amount, centipence, suppliedOn, statement, pointCharge, providerOn, overProviders, providerCharge, providerAt, providersOf, plus, clearRow, rowAnd, rows}
-use Rattle.rules.specs.Services.{written, rowsNumber, rowsAnswer, rowsAfter, zeroStatement, statementAt, statementAnswer}
+use Rattle.rules.specs.Report.{report}
+use Rattle.rules.specs.Services.{written, roomNumber, rowsNumber, rowsAnswer, rowsAfter, zeroStatement, statementAt, statementAnswer, reportNumber, reportAnswer, reportAfter}
 use Rattle.rules.specs.Promises.{Accepted, providersAt, Conserved, ChargeNear, AllNear, Summed, RowsAreSums, untraded, SameStatements, Served, Demand3}
 use Rattle.rules.proofs.Lists.{all, all-all, all-map}
 use Rattle.rules.proofs.Shares.{Covers, over-none, days-count, floors-add-up, owns-add-up, floor-near}
@@ -163,10 +164,10 @@ same-statements a b ha hb alike place =
     answered a ha place ∙ (ap₂ (λ t s. statementAt t s place) (ap (λ (f : File). f .tariff) alike) same ∙ sym (answered b hb place))
 
 -- SERVICES
-written-first : {A : Type 0} (n : ℕ) → n ≡ 0 → (answer space : List A) → take (only (eqb n 0) (length answer)) (written n answer space) ≡ answer
-unfolding written only
-written-first zero h answer space = take-append-seam answer (drop (length answer) space)
-written-first (suc n) h answer space = absurd (omega arith)
+-- what is accepted is refused by nothing that has room for it
+room-enough : (n room wanted : ℕ) → n ≡ 0 → wanted ≤ room → firstOr (n ∷ []) (roomNumber room wanted) ≡ 0
+unfolding roomNumber firstOr
+room-enough n room wanted h fits = simp (h, le-ltb room wanted fits)
 
 at-place : (tariff : Tariff) (points : List Point) (place : ℕ) → place < length points →
     statementAt tariff (map (λ point. point .supply) points) place
@@ -177,11 +178,12 @@ at-place tariff (point ∷ points) zero h = refl
 at-place tariff (point ∷ points) (suc place) h = at-place tariff points place (omega arith)
 
 pub served : (bytes : List ℕ) → refusal bytes ≡ 0 → Served bytes
-unfolding rowsAnswer rowsAfter
+unfolding rowsNumber rowsAnswer rowsAfter reportNumber reportAnswer reportAfter written only firstOr
 served bytes h =
     record {
-      rows = λ table n. written-first (rowsNumber bytes (length table)) n (rows (decode bytes)) table;
+      rows = λ table fits. let none = room-enough (refusal bytes) (length table) (length (rows (decode bytes))) h fits in (simp none, simp none);
       statements = λ place k. answered bytes h place ∙ at-place (decode bytes .tariff) (decode bytes .points) place k;
+      report = λ space fits. let none = room-enough (refusal bytes) (length space) (length (report (decode bytes))) h fits in (simp none, simp none);
     }
 
 -- ACCEPTED FILES

@@ -4,7 +4,9 @@ pub mod Sums
 pub mod Rows
 pub mod Providers
 pub mod Fields
-pub mod Passed
+pub mod Placed
+pub mod Judged
+pub mod Breaches
 pub mod Accepted
 pub mod InForce
 pub mod Kept
@@ -12,3 +14,4 @@ pub mod Examples
 pub mod Sentences
 pub mod Numbers
 pub mod Services
+pub mod Refused

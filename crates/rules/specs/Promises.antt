@@ -1,9 +1,11 @@
--- Demand 3: however a point passes between providers, nothing is gained or lost. Here it is stated; `proofs/Kept` proves it of every file.
+-- Demands 1 and 3: what is refused, and that however a point passes between providers, nothing is gained or lost. Here they are stated;
+-- `proofs/Refused` and `proofs/Kept` prove them of every file.
 use Prim.Native.Nat.{ℕ, _+_, _*_, _≤_, _<_}
 use mathlib.Core.Path.{_≡_}
-use mathlib.Core.List.{List, [], _∷_, map}
+use mathlib.Core.Logic.{_↔_}
+use mathlib.Core.List.{List, [], _∷_, _++_, map}
 use lib.Dec.{eqb}
-use lib.ListN.{length, getD, take}
+use lib.ListN.{length, getD, drop}
 use Rattle.rules.specs.declared.Row.{Row}
 use Rattle.rules.specs.declared.Statement.{Statement}
 use Rattle.rules.specs.declared.Transfer.{Transfer}
@@ -12,10 +14,43 @@ use Rattle.rules.specs.Lists.{All, Some, Lists, IsLatest}
 use Rattle.rules.specs.Calendar.{aprilFirst}
 use Rattle.rules.specs.File.{Tariff, Supply, Point, File, decode}
 use Rattle.rules.specs.Refusal.{refusal}
+use Rattle.rules.specs.Lawful.{Lawful, First, NoBreach, FirstBreach}
 use Rattle.rules.specs.Charges.{overCharged, Charge, charges}
 use Rattle.rules.specs.Settlement.{amount, pointCharge, statement, providerOn, overProviders, providerCharge, providerAt, providersOf, rows}
-use Rattle.rules.specs.Services.{rowsNumber, rowsAnswer, rowsAfter, zeroStatement, statementAnswer}
+use Rattle.rules.specs.Report.{report}
+use Rattle.rules.specs.Services.{rowsAnswer, rowsAfter, zeroStatement, statementAnswer, reportAnswer, reportAfter}
 
+-- DEMAND 1
+-- A file that breaks a rule, a space too short or a point that is not there: the call returns the number of the first breach in the listed
+-- order and changes nothing lent to it. Without a breach it never refuses.
+
+-- of the rows service: 14 where the table has fewer entries than there are rows
+pub record RowsNumbered (file : List ℕ) (table : List Row) : Type 0 where
+  pub first : (n : ℕ) → (rowsAnswer file (length table) .number ≡ n) ↔ FirstBreach file (First (length table < length (rows (decode file))) 14 NoBreach) n
+  pub free : (rowsAnswer file (length table) .number ≡ 0) ↔ (Lawful file × (length (rows (decode file)) ≤ length table))
+  pub refused : ¬ (rowsAnswer file (length table) .number ≡ 0) → (rowsAnswer file (length table) .count ≡ 0) × (rowsAfter file table ≡ table)
+
+-- of the statement service: 15 where there is no point at that place
+pub record StatementNumbered (file : List ℕ) (place : ℕ) : Type 0 where
+  pub first : (n : ℕ) → (statementAnswer file place .number ≡ n) ↔ FirstBreach file (First (length (decode file .points) ≤ place) 15 NoBreach) n
+  pub free : (statementAnswer file place .number ≡ 0) ↔ (Lawful file × (place < length (decode file .points)))
+  pub refused : ¬ (statementAnswer file place .number ≡ 0) → statementAnswer file place .statement ≡ zeroStatement
+
+-- of the report service, whose one number is a length from 52 on, and else a refusal's: 14 where the space is shorter than the report
+pub record ReportNumbered (file space : List ℕ) : Type 0 where
+  pub free : (52 ≤ reportAnswer file (length space)) ↔ (Lawful file × (length (report (decode file)) ≤ length space))
+  pub first : reportAnswer file (length space) < 52 → FirstBreach file (First (length space < length (report (decode file))) 14 NoBreach) (reportAnswer file (length space))
+  pub refused : reportAnswer file (length space) < 52 → (1 ≤ reportAnswer file (length space)) × (reportAfter file space ≡ space)
+
+-- Demand 1 whole
+pub record Demand1 : Type 0 where
+  pub lawful : (file : List ℕ) → (refusal file ≡ 0) ↔ Lawful file
+  pub first : (file : List ℕ) (n : ℕ) → (refusal file ≡ n) ↔ FirstBreach file NoBreach n
+  pub rows : (file : List ℕ) (table : List Row) → RowsNumbered file table
+  pub statement : (file : List ℕ) (place : ℕ) → StatementNumbered file place
+  pub report : (file space : List ℕ) → ReportNumbered file space
+
+-- DEMAND 3
 -- a file is accepted when it breaks none of 1 to 12, nor 13
 abbrev pub Accepted : List ℕ → Type 0
 Accepted bytes = refusal bytes ≡ 0
@@ -113,10 +148,16 @@ abbrev pub SameStatements : Type 0
 SameStatements = (a b : List ℕ) → Accepted a → Accepted b → Alike a b → (place : ℕ) → statementAnswer a place ≡ statementAnswer b place
 
 -- SERVICES
--- The rows are those that the rows service writes, and the statements those that the statement service hands back, with number 0.
+-- The rows are those that the rows service writes, the statements those that the statement service hands back, and the report that which the
+-- report service writes: of every table with room and every point, with number 0, and of every space with room.
 pub record Served (bytes : List ℕ) : Type 0 where
-  pub rows : (table : List Row) → rowsNumber bytes (length table) ≡ 0 → take (rowsAnswer bytes (length table) .count) (rowsAfter bytes table) ≡ rows (decode bytes)
+  pub rows : (table : List Row) → length (rows (decode bytes)) ≤ length table →
+      (rowsAnswer bytes (length table) ≡ record { number = 0; count = length (rows (decode bytes)) })
+      × (rowsAfter bytes table ≡ rows (decode bytes) ++ drop (length (rows (decode bytes))) table)
   pub statements : (place : ℕ) → place < length (decode bytes .points) → statementAnswer bytes place ≡ record { number = 0; statement = getD (statements (decode bytes)) place zeroStatement }
+  pub report : (space : List ℕ) → length (report (decode bytes)) ≤ length space →
+      (reportAnswer bytes (length space) ≡ length (report (decode bytes)))
+      × (reportAfter bytes space ≡ report (decode bytes) ++ drop (length (report (decode bytes))) space)
 
 -- what is promised of one accepted file
 pub record Promised (bytes : List ℕ) : Type 0 where

@@ -3,7 +3,7 @@
 use Prim.Native.Nat.{_-_}
 use mathlib.Core.Path.{sym, _∙_}
 use native.Mathlib.Omega.{arith}
-use Rattle.rules.proofs.Passed.{good-meter}
+use Rattle.rules.proofs.Judged.{meter-digits}
 use Rattle.format.proofs.Rest.{opened}
 use Rattle.format.proofs.Walk.{At, bandsLeft, pointsLeft, transfersLeft, conditionsLeft, metersLeft, readsLeft, has-room, stops, goes-on, ends, too-long, header-stops, opens, file-ends}
 use Rattle.format.proofs.check.Statement.{statement}
@@ -138,7 +138,7 @@ check-spec =
     -- meter-number-requires
     (λ c κs. omega arith)
     -- dial-values-requires
-    (λ c κs. let g = good-meter _ _ _ _ (sym (c .before .before .meter-number .ensures) ∙ c .before .if12 .left) .1 in omega arith)
+    (λ c κs. let digits = meter-digits _ _ _ _ (sym (c .before .before .meter-number .ensures) ∙ c .before .if12 .left) in omega (arith, digits .0, digits .1))
     -- reads-holds
     (λ c. goes-on (c .before .before .before .before .before .before .before .meters .inv) (c .before .before .before .before .before .if11 .taken) (c .before .before .before .before .meter .ensures) (c .before .before .before .meter-number .ensures) (c .before .before .if12 .left))
     -- read-requires
