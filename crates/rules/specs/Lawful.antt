@@ -150,7 +150,10 @@ Near none r = Unit {0}
 Near (some before) r = r .day ≤ before .day + 3660
 
 -- THE RULES
--- what a rule asks, and the number of its breach
+-- what a rule asks, and the number of its breach: 2 a record lacks bits; 3 mark or version; 4 field outside its range; 5 band sizes, point numbers,
+-- or a list's days not strictly ascending; 6 first transfer after connection; 7 discounts together above 10,000; 8 disconnection before connection,
+-- or removal before installation; 9 read before installation or after removal; 10 rollover set on a first read, or not set exactly when the value
+-- falls; 11 over 3,660 days between reads
 pub record Rule : Type 1 where
   pub number : ℕ
   pub Kept : Type 0
@@ -158,7 +161,7 @@ pub record Rule : Type 1 where
 abbrev pub rule : ℕ → Type 0 → Rule
 rule number Kept = record { number = number; Kept = Kept }
 
--- the rules for a record, wherever it stands
+-- the rules for a record by what it holds, their numbers ascending
 unfoldable pub rulesFor : Record → List Rule
 rulesFor (header h) = rule 3 ((h .mark ≡ 0x5753) × (h .version ≡ 1)) ∷ rule 4 (HeaderInRange h) ∷ []
 rulesFor (band before b) = rule 4 (BandInRange b) ∷ rule 5 (Above (λ b. b .size) before b) ∷ []
@@ -176,7 +179,7 @@ rulesFor (read m before r) =
     ∷ rule 11 (Near before r)
     ∷ []
 
--- and those for a record in its place, in a file of so many bits: no record lacks bits
+-- and, before them, by its place: it ends within the file's bits
 abbrev pub rulesOf : ℕ → Placed → List Rule
 rulesOf bits p = rule 2 (p .next ≤ bits) ∷ rulesFor (p .what)
 
