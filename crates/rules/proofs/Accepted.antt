@@ -1,7 +1,7 @@
 -- What a file that breaks no rule holds: the theorem that the stages after the check cite. Assumes nothing.
-use Prim.Native.Nat.{ℕ, zero, suc, _+_, _*_, _≤_, _<_}
+use Prim.Native.Nat.{ℕ, _+_, _*_, _≤_, _<_}
 use Prim.{tt}
-use mathlib.Core.Path.{_≡_, refl}
+use mathlib.Core.Path.{_≡_}
 use mathlib.Core.Option.{Option, none, some}
 use mathlib.Core.List.{List, [], _∷_, _++_, map}
 use native.Mathlib.Numerals.{add-one}
@@ -24,7 +24,7 @@ use Rattle.rules.specs.Refusal.{when, fileRefusal}
 use Rattle.rules.specs.Lawful.{Record, band, transfer, condition, read, inTurn, meterRecords, pointRecords, fileRecords, width, placed, Above, Turned, rulesFor, Keeps, bitsOf, Sound}
 use Rattle.rules.specs.Good.{GoodBand, GoodTransfer, FirstBy, GoodCondition, Undrained, GoodRead, GoodAdvances, GoodMeterHead, GoodMeter, GoodPointHead, GoodPoint, GoodHeader, Good}
 use Rattle.rules.proofs.Lists.{all-all, all-apart}
-use Rattle.rules.proofs.Placed.{ends, placed-append, bands-end, transfers-end, conditions-end, reads-end, dated, inside, dated-end, inside-end}
+use Rattle.rules.proofs.Placed.{ends, placed-append, bands-end, transfers-end, reads-end, dated, inside, dated-end, inside-end}
 use Rattle.rules.proofs.Judged.{leastAfter}
 use Rattle.rules.proofs.Breaches.{accepted-sound}
 

@@ -1,6 +1,6 @@
 -- Demand 1: the number of a file is that of its first breach in the listed order, and a file is accepted exactly when it has none. Assumes nothing.
-use Prim.Native.Nat.{ℕ, zero, suc, _+_, _-_, _*_, _≤_, _<_}
-use Prim.{Unit, tt}
+use Prim.Native.Nat.{ℕ, zero, suc, _-_, _≤_, _<_}
+use Prim.{tt}
 use mathlib.Core.Path.{_≡_, refl, sym, ap, _∙_}
 use mathlib.Core.Logic.{_↔_, _⊎_, inl, inr}
 use mathlib.Core.Option.{Option, none, some}
@@ -18,10 +18,10 @@ use Rattle.rules.specs.declared.MeterHead.{MeterHead}
 use Rattle.rules.specs.declared.Read.{Read}
 use Rattle.rules.specs.Lists.{All, Some}
 use Rattle.rules.specs.Field.{field}
-use Rattle.rules.specs.File.{Meter, Point, File, meterHead, pointHead, fileHeader, bandsAt, afterBand, afterBands, transfersFrom, afterTransfer, afterTransfers, afterCondition, afterConditions, readsFrom, afterRead, afterReads, afterMeter, afterMeters, afterPoint, afterPoints, after, decode}
+use Rattle.rules.specs.File.{Meter, Point, File, meterHead, pointHead, fileHeader, bandsAt, afterBand, afterBands, transfersFrom, afterTransfer, afterTransfers, afterCondition, afterConditions, readsFrom, afterRead, afterMeter, afterPoint, decode}
 use Rattle.rules.specs.Refusal.{when, bandNumbers, transferNumbers, conditionNumbers, readNumbers, meterNumbers, pointNumbers, headerRule, fileNumbers, paddingNumber, firstOr, fileRefusal, refusal}
-use Rattle.rules.specs.Lawful.{Record, header, band, point, transfer, condition, meter, read, inTurn, meterRecords, pointRecords, fileRecords, width, Placed, placed, Rule, rulesOf, Keeps, bitsOf, recordsOf, recordsEnd, Padded, Sound, providersIn, Lawful, Breaks, FirstBroken, First, here, past, FirstRecord, within, beyond, NoBreach, FileBreach, FirstBreach}
-use Rattle.rules.proofs.Placed.{ends, placed-append, bands-end, transfers-end, reads-end, dated, inside, dated-end, inside-end, points-last}
+use Rattle.rules.specs.Lawful.{Record, band, transfer, condition, read, inTurn, meterRecords, pointRecords, fileRecords, width, Placed, placed, Rule, rulesOf, Keeps, bitsOf, recordsEnd, Padded, Sound, providersIn, Lawful, Breaks, First, here, past, FirstRecord, within, beyond, NoBreach, FileBreach, FirstBreach}
+use Rattle.rules.proofs.Placed.{ends, placed-append, bands-end, transfers-end, reads-end, inside, dated-end, inside-end, points-last}
 use Rattle.rules.proofs.Judged.{Tries, or, below, the-same, leastAfter, valueBefore, latestTransfer, latestRead, Judged, Outcome, keeps, breaks, outcome, header-gives, band-gives, point-gives, transfer-gives, condition-gives, meter-gives, read-gives}
 
 -- THE NUMBERS OF RECORDS ONE AFTER THE OTHER
@@ -70,15 +70,15 @@ module _ (bits : ℕ) where
       let head = meterHead m in
       more (meter-gives bits (readsFrom at) service head)
       (join-placed (readsFrom at) (afterMeter at m) (inTurn (read head) none (m .reads)) (meterRecords service ms)
-          (reads-end head (readsFrom at) (m .reads))
-          (reads-numbered head (readsFrom at) none (m .reads))
-          (meters-numbered service (afterMeter at m) ms))
+      (reads-end head (readsFrom at) (m .reads))
+      (reads-numbered head (readsFrom at) none (m .reads))
+      (meters-numbered service (afterMeter at m) ms))
 
   inside-numbered : (service at : ℕ) (p : Point) →
       Numbered bits (placed at (inside service p))
-          (transferNumbers bits at 0 (p .supply .connected) (p .transfers)
-          ++ conditionNumbers bits service (afterTransfers at (p .transfers)) 0 (p .supply .conditions)
-          ++ meterNumbers bits service (afterConditions (afterTransfers at (p .transfers)) (p .supply .conditions)) (p .supply .meters))
+      (transferNumbers bits at 0 (p .supply .connected) (p .transfers)
+      ++ conditionNumbers bits service (afterTransfers at (p .transfers)) 0 (p .supply .conditions)
+      ++ meterNumbers bits service (afterConditions (afterTransfers at (p .transfers)) (p .supply .conditions)) (p .supply .meters))
   inside-numbered service at p =
       let supply = p .supply in
       let conditionsFrom = afterTransfers at (p .transfers) in
@@ -86,10 +86,10 @@ module _ (bits : ℕ) where
       let ts = inTurn (transfer (supply .connected)) none (p .transfers) in
       let cs = inTurn (condition service) none (supply .conditions) in
       join-placed at metersFrom (ts ++ cs) (meterRecords service (supply .meters)) (dated-end service at p)
-          (join-placed at conditionsFrom ts cs (transfers-end (supply .connected) at (p .transfers))
-              (transfers-numbered at (supply .connected) none (p .transfers))
-              (conditions-numbered service conditionsFrom none (supply .conditions)))
-          (meters-numbered service metersFrom (supply .meters))
+      (join-placed at conditionsFrom ts cs (transfers-end (supply .connected) at (p .transfers))
+      (transfers-numbered at (supply .connected) none (p .transfers))
+      (conditions-numbered service conditionsFrom none (supply .conditions)))
+      (meters-numbered service metersFrom (supply .meters))
 
   points-numbered : (service at : ℕ) (before : Option PointHead) (ps : List Point) →
       Numbered bits (placed at (pointRecords service before ps)) (pointNumbers bits service at (leastAfter (λ p. p .number) before) ps)
@@ -98,8 +98,8 @@ module _ (bits : ℕ) where
   points-numbered service at before (p ∷ ps) =
       more (point-gives bits (transfersFrom at) before (pointHead p))
       (join-placed (transfersFrom at) (afterPoint at p) (inside service p) (pointRecords service (some (pointHead p)) ps) (inside-end service at p)
-          (inside-numbered service (transfersFrom at) p)
-          (points-numbered service (afterPoint at p) (some (pointHead p)) ps))
+      (inside-numbered service (transfersFrom at) p)
+      (points-numbered service (afterPoint at p) (some (pointHead p)) ps))
 
   file-numbered : (f : File) → Numbered bits (placed 0 (fileRecords f)) (fileNumbers bits f)
   unfolding fileNumbers fileRecords headerRule placed width
@@ -107,8 +107,8 @@ module _ (bits : ℕ) where
       let t = f .tariff in
       more (header-gives bits bandsAt (fileHeader f))
       (join-placed bandsAt (afterBands bandsAt (t .bands)) (inTurn band none (t .bands)) (pointRecords (t .service) none (f .points)) (bands-end bandsAt (t .bands))
-          (bands-numbered bandsAt none (t .bands))
-          (points-numbered (t .service) (afterBands bandsAt (t .bands)) none (f .points)))
+      (bands-numbered bandsAt none (t .bands))
+      (points-numbered (t .service) (afterBands bandsAt (t .bands)) none (f .points)))
 
 -- THE FIRST NUMBER
 -- the number is what is said of it, and nothing else is

@@ -1,14 +1,14 @@
 -- The number that `Refusal` computes of each record is that of the first of its rules that is not kept. Assumes nothing.
-use Prim.Native.Nat.{ℕ, zero, suc, _+_, _*_, _≤_, _<_}
+use Prim.Native.Nat.{ℕ, zero, suc, _+_, _≤_, _<_}
 use Prim.{Unit, tt}
-use mathlib.Core.Path.{_≡_, refl, sym, ap, _∙_}
-use mathlib.Core.Logic.{_↔_, _⊎_, inl, inr}
+use mathlib.Core.Path.{_≡_, refl, ap}
+use mathlib.Core.Logic.{_↔_, inl, inr}
 use mathlib.Core.Option.{Option, none, some}
-use mathlib.Core.List.{List, [], _∷_, _++_, map}
+use mathlib.Core.List.{List, [], _∷_}
 use mathlib.Core.Bool.{Bool, true, false, _&&_, _||_, not}
 use native.Mathlib.Omega.{arith}
 use lib.Dec.{ltb, leb, eqb}
-use borrow.Author.Tests.{ltb-true, ltb-false, leb-true, leb-false, eqb-true, eqb-false, not-false, lt-ltb, le-ltb, lt-leb, eq-eqb, ne-eqb}
+use borrow.Author.Tests.{ltb-true, ltb-false, leb-true, leb-false, eqb-true, eqb-false, not-false, le-ltb, lt-leb, eq-eqb, ne-eqb}
 use Rattle.rules.specs.declared.Header.{Header}
 use Rattle.rules.specs.declared.Band.{Band}
 use Rattle.rules.specs.declared.PointHead.{PointHead}
@@ -19,9 +19,8 @@ use Rattle.rules.specs.declared.Read.{Read}
 use Rattle.rules.specs.Lists.{All, Some}
 use Rattle.rules.specs.Calendar.{noDay}
 use Rattle.rules.specs.Litres.{dialValues}
-use Rattle.rules.specs.File.{bandsAt}
-use Rattle.rules.specs.Lawful.{Record, header, band, point, transfer, condition, meter, read, width, Placed, IsDay, Between, DryInWater, HeaderInRange, BandInRange, PointInRange, TransferInRange, ConditionInRange, MeterInRange, ReadInRange, Above, Turned, Rule, rule, rulesFor, rulesOf, Keeps, Breaks}
-use Rattle.rules.specs.Refusal.{when, outside, headerOutside, bandOutside, pointOutside, transferOutside, conditionOutside, meterOutside, readOutside, headerRule, bandRule, pointRule, transferRule, conditionRule, meterRule, readRule}
+use Rattle.rules.specs.Lawful.{Record, header, band, point, transfer, condition, meter, read, IsDay, Between, DryInWater, HeaderInRange, BandInRange, PointInRange, TransferInRange, ConditionInRange, MeterInRange, ReadInRange, Above, Turned, Rule, rule, rulesFor, rulesOf}
+use Rattle.rules.specs.Refusal.{when, outside, headerOutside, bandOutside, pointOutside, transferOutside, conditionOutside, meterOutside, readOutside, bandRule, pointRule, transferRule, conditionRule, meterRule, readRule}
 
 -- TESTS: each is false exactly where what it tries is so
 abbrev pub Tries : Bool → Type 0 → Type 0

@@ -1,9 +1,9 @@
 -- Demand 1, proved. Assumes nothing.
 use Prim.Native.Nat.{ℕ, zero, suc, _≤_, _<_, compare·suc-suc}
 use mathlib.Core.Path.{_≡_, refl, sym, ap, _∙_}
-use mathlib.Core.Logic.{_↔_, _⊎_, inl, inr}
+use mathlib.Core.Logic.{_↔_}
 use mathlib.Core.List.{List, [], _∷_, map}
-use mathlib.Core.Bool.{Bool, true, false}
+use mathlib.Core.Bool.{Bool}
 use native.Mathlib.Omega.{arith}
 use native.Mathlib.Decide.{decLe}
 use lib.ListN.{length, length-map}
@@ -13,12 +13,12 @@ use Rattle.rules.specs.declared.Row.{Row}
 use Rattle.rules.specs.Sums.{only}
 use Rattle.rules.specs.File.{Tariff, Supply, decode}
 use Rattle.rules.specs.Refusal.{when, firstOr, refusal}
-use Rattle.rules.specs.Lawful.{Lawful, First, NoBreach, FirstBreach}
+use Rattle.rules.specs.Lawful.{Lawful}
 use Rattle.rules.specs.Settlement.{rows}
 use Rattle.rules.specs.Report.{report}
 use Rattle.rules.specs.Services.{written, rowsNumber, rowsAnswer, rowsAfter, zeroStatement, statementAt, statementAnswer, reportNumber, reportAnswer, reportAfter}
 use Rattle.rules.specs.Promises.{RowsNumbered, StatementNumbered, ReportNumbered, Demand1}
-use Rattle.rules.proofs.Breaches.{Says, none-says, when-says, breach-says, first-breach, accepted-lawful}
+use Rattle.rules.proofs.Breaches.{none-says, when-says, breach-says, first-breach, accepted-lawful}
 use Rattle.rules.proofs.Kept.{answered, refused}
 use Rattle.rules.proofs.Numbers.{room-says, none-free, number-low}
 use Rattle.rules.proofs.Sentences.{no-report-under-52}
