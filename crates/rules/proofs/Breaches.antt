@@ -261,18 +261,19 @@ module _ (file : List ℕ) (then : ℕ) {Then : ℕ → Type 0} (says : Says the
   file-says : Says (firstOr (fileRefusal file ∷ []) then) (FileBreach file Then)
   unfolding fileRefusal
   file-says =
-      let ns = fileNumbers (bitsOf file) (decode file) in
-      let end = recordsEnd file in
       rw (first-when, first-first, ← points-last file)
-      (over-says 65536 (length file) 1 _ (records-say _ (padding-says end) (file-numbered (bitsOf file) (decode file))))
+      (over-says 65536 (length file) 1 _ (records-say _ (padding-says (recordsEnd file)) (file-numbered (bitsOf file) (decode file))))
+
+-- 13 comes after 1 to 12
+refusal-then : (file : List ℕ) (then : ℕ) → firstOr (refusal file ∷ []) then ≡ firstOr (fileRefusal file ∷ []) (when (ltb 64 (providersIn file)) 13 then)
+unfolding refusal firstOr
+refusal-then file then =
+    let crowded = ltb 64 (providersIn file) in
+    first-first (fileRefusal file ∷ []) (when crowded 13 0) then ∙ ap (λ n. firstOr (fileRefusal file ∷ []) n) (first-when crowded 12 0 then)
 
 -- 1 to 13, and what comes after them
 pub breach-says : (file : List ℕ) (then : ℕ) {Then : ℕ → Type 0} → Says then Then → Says (firstOr (refusal file ∷ []) then) (FirstBreach file Then)
-unfolding refusal firstOr
-breach-says file then says =
-    let over = over-says 64 (providersIn file) 13 then says in
-    rw (first-first (fileRefusal file ∷ []) (when (ltb 64 (providersIn file)) 13 0) then, first-when)
-    (file-says file (when (ltb 64 (providersIn file)) 13 then) over)
+breach-says file then says = rw (refusal-then file then) (file-says file _ (over-says 64 (providersIn file) 13 then says))
 
 -- where nothing comes after it, a number is the first itself
 first-alone : (n : ℕ) → firstOr (n ∷ []) 0 ≡ n
