@@ -5,6 +5,10 @@
 #include <stddef.h>
 #include <stdint.h>
 
+#ifdef __cplusplus
+extern "C" {
+#endif
+
 /*
  * Settles a file and writes its report.
  *
@@ -23,7 +27,8 @@
  * - `file` points to `file_len` bytes that can be read, and `space` to `space_len` bytes that can be written, until the call returns;
  * - the two don't overlap, and nobody else writes to them during the call;
  * - neither pointer is null, even where its length is 0 (any other address will do then; it is not read);
- * - the stack has the room that docs/MEASURED.md gives.
+ * - the stack has room. Measured, not proved: a call took at most 16,064 bytes, its return address included, on the seven files of
+ *   docs/MEASURED.md, part 4 (x86-64, the archive as `rt staticlib` builds it, glibc's memcpy and memset).
  *
  * A `file_len` of 0 is a file that lacks bits: the answer is 2. A `space_len` of 0 is a space too short: 14, unless the file is refused first.
  * No report is longer than 26,567 bytes, so 26,567 bytes of space suffice for every file.
@@ -52,5 +57,9 @@ enum settlement_refusal {
     SETTLEMENT_TOO_MANY_PROVIDERS = 13,    /* over 64 providers with a charged day */
     SETTLEMENT_SPACE_TOO_SHORT = 14        /* report space shorter than the report */
 };
+
+#ifdef __cplusplus
+}
+#endif
 
 #endif
