@@ -135,37 +135,36 @@ when-says false number v {Breach} {Then} is isn't says n = (λ e. past (isn't re
 pub over-says : (limit x number v : ℕ) {Then : ℕ → Type 0} → Says v Then → Says (when (ltb limit x) number v) (First (limit < x) number Then)
 over-says limit x number v says = when-says (ltb limit x) number v (ltb-true limit x) (λ e over. omega (arith, ltb-false limit x e)) says
 
--- a record that breaks a rule does not keep all
-breaks-not : {bits n : ℕ} {p : Placed} → Breaks bits p n → ¬ Keeps bits p
-breaks-not {bits} {n} {p} b k = go (rulesOf bits p) (b .broken) k
+-- where a rule is broken not all are kept
+breaks-not : {n : ℕ} {rules : List Rule} → Breaks rules n → ¬ All (λ rule. rule .Kept) rules
+breaks-not {n} {rules} b k = go rules (b .broken) k
   where
     go : (rules : List Rule) → Some (λ rule. (rule .number ≡ n) × ¬ (rule .Kept)) rules → All (λ rule. rule .Kept) rules → ⊥
     go (r ∷ rs) (inl x) k = x .1 (k .0)
     go (r ∷ rs) (inr x) k = go rs x (k .1)
 
--- and has one number
-breaks-once : {bits n m : ℕ} {p : Placed} → Breaks bits p n → Breaks bits p m → n ≤ m
-breaks-once {bits} {n} {m} {p} a b = go (rulesOf bits p) (a .least) (b .broken)
+-- and no two numbers are the least
+breaks-once : {n m : ℕ} {rules : List Rule} → Breaks rules n → Breaks rules m → n ≤ m
+breaks-once {n} {m} {rules} a b = go rules (a .least) (b .broken)
   where
     go : (rules : List Rule) → All (λ rule. ¬ (rule .Kept) → n ≤ rule .number) rules → Some (λ rule. (rule .number ≡ m) × ¬ (rule .Kept)) rules → n ≤ m
     go (r ∷ rs) l (inl x) = let h = l .0 (x .1) in omega (arith, x .0)
     go (r ∷ rs) l (inr x) = go rs (l .1) x
 
--- the one that its tests give
-breaks-judged : {bits n k : ℕ} {p : Placed} → Judged 2 (rulesOf bits p) k → Breaks bits p n → (k ≡ n) × (2 ≤ n) × (n ≤ 11)
-breaks-judged {bits} {n} {k} {p} j b = go (outcome j)
+-- the tests give it
+breaks-judged : {n k : ℕ} {rules : List Rule} → Judged 2 rules k → Breaks rules n → (k ≡ n) × (2 ≤ n) × (n ≤ 11)
+breaks-judged {n} {k} {rules} j b = go (outcome j)
   where
-    go : Outcome 2 (rulesOf bits p) k → (k ≡ n) × (2 ≤ n) × (n ≤ 11)
+    go : Outcome 2 rules k → (k ≡ n) × (2 ≤ n) × (n ≤ 11)
     go (keeps z all) = absurd (breaks-not b all)
-    go (breaks broken least low few) =
-        let c : Breaks bits p k = record { broken = broken; least = least } in
+    go (breaks c low few) =
         let up = breaks-once b c in
         let down = breaks-once c b in
         (omega arith, omega arith, omega arith)
 
-broken-number : (before later : List Placed) {bits n : ℕ} {first : Placed} {ns : List ℕ} → Numbered bits (before ++ (first ∷ later)) ns → Breaks bits first n → (2 ≤ n) × (n ≤ 11)
-broken-number [] later (more j js) b = let x = breaks-judged j b in (x .1, x .2)
-broken-number (p ∷ before) later (more j js) b = broken-number before later js b
+broken-number : (before : List Placed) (first : Placed) (later : List Placed) {bits n : ℕ} {ns : List ℕ} → Numbered bits (before ++ (first ∷ later)) ns → Breaks (rulesOf bits first) n → (2 ≤ n) × (n ≤ 11)
+broken-number [] first later (more j js) b = let x = breaks-judged j b in (x .1, x .2)
+broken-number (p ∷ before) first later (more j js) b = broken-number before first later js b
 
 module _ {bits : ℕ} (last : ℕ) {Then : ℕ → Type 0} (says : Says last Then) where
   -- what the tests give is what is said of the records: forth
@@ -178,10 +177,8 @@ module _ {bits : ℕ} (last : ℕ) {Then : ℕ → Type 0} (says : Says last The
       go zero e (keeps z kept) (beyond all rest) = beyond (kept, all) rest
       go zero e (keeps z kept) (within b) = within (record { before = p ∷ b .before; first = b .first; later = b .later; order = ap (λ l. p ∷ l) (b .order); kept = (kept, b .kept); breaks = b .breaks })
       go (suc k) e (keeps z kept) rest = absurd (omega arith)
-      go zero e (breaks broken least low few) rest = absurd (omega arith)
-      go (suc k) e (breaks broken least low few) rest =
-          let b : Breaks bits p n = record { broken = broken; least = least } in
-          within (record { before = []; first = p; later = ps; order = refl; kept = tt; breaks = rw e at b })
+      go zero e (breaks b low few) rest = absurd (omega arith)
+      go (suc k) e (breaks b low few) rest = within (record { before = []; first = p; later = ps; order = refl; kept = tt; breaks = rw e at b })
 
   -- and back
   back-kept : {ps : List Placed} {ns : List ℕ} → Numbered bits ps ns → All (Keeps bits) ps → firstOr ns last ≡ last
@@ -192,29 +189,29 @@ module _ {bits : ℕ} (last : ℕ) {Then : ℕ → Type 0} (says : Says last The
       go : (k : ℕ) → Outcome 2 (rulesOf bits p) k → firstOr ns last ≡ last → firstOr (k ∷ ns) last ≡ last
       go zero o rest = rest
       go (suc k) (keeps z kept) rest = absurd (omega arith)
-      go (suc k) (breaks broken least low few) rest = absurd (breaks-not (record { broken = broken; least = least }) (all .0))
+      go (suc k) (breaks b low few) rest = absurd (breaks-not b (all .0))
 
-  back-broken : (before later : List Placed) {first : Placed} {ns : List ℕ} {n : ℕ} → Numbered bits (before ++ (first ∷ later)) ns → All (Keeps bits) before →
-      Breaks bits first n → firstOr ns last ≡ n
+  back-broken : (before : List Placed) (first : Placed) (later : List Placed) {ns : List ℕ} {n : ℕ} → Numbered bits (before ++ (first ∷ later)) ns → All (Keeps bits) before →
+      Breaks (rulesOf bits first) n → firstOr ns last ≡ n
   unfolding firstOr
-  back-broken [] later {n = n} (more {n = k} {ns = ns} j js) kept b = let x = breaks-judged j b in go k (x .0) (x .1)
+  back-broken [] first later {n = n} (more {n = k} {ns = ns} j js) kept b = let x = breaks-judged j b in go k (x .0) (x .1)
     where
       go : (k : ℕ) → k ≡ n → 2 ≤ n → firstOr (k ∷ ns) last ≡ n
       go zero e two = absurd (omega arith)
       go (suc k) e two = e
-  back-broken (p ∷ before) later {n = n} (more {n = k} {ns = ns} j js) kept b = go k (outcome j) (back-broken before later js (kept .1) b)
+  back-broken (p ∷ before) first later {n = n} (more {n = k} {ns = ns} j js) kept b = go k (outcome j) (back-broken before first later js (kept .1) b)
     where
       go : (k : ℕ) → Outcome 2 (rulesOf bits p) k → firstOr ns last ≡ n → firstOr (k ∷ ns) last ≡ n
       go zero o rest = rest
       go (suc k) (keeps z all) rest = absurd (omega arith)
-      go (suc k) (breaks broken least low few) rest = absurd (breaks-not (record { broken = broken; least = least }) (kept .0))
+      go (suc k) (breaks c low few) rest = absurd (breaks-not c (kept .0))
 
   records-say : {ps : List Placed} {ns : List ℕ} → Numbered bits ps ns → Says (firstOr ns last) (FirstRecord bits ps Then)
   records-say {ps} {ns} numbered n = (λ e. rw e at (forth numbered), back)
     where
       back : FirstRecord bits ps Then n → firstOr ns last ≡ n
       back (beyond all rest) = back-kept numbered all ∙ says n .1 rest
-      back (within b) = back-broken (b .before) (b .later) (rw (b .order) at numbered) (b .kept) (b .breaks)
+      back (within b) = back-broken (b .before) (b .first) (b .later) (rw (b .order) at numbered) (b .kept) (b .breaks)
 
 -- A WHOLE FILE
 -- a number that comes after others
@@ -289,7 +286,7 @@ first-breach file = rw first-alone at (breach-says file 0 none-says)
 file-or : (file : List ℕ) {Then : ℕ → Type 0} {n : ℕ} → FileBreach file Then n → ((1 ≤ n) × (n ≤ 12)) ⊎ (Sound file × Then n)
 file-or file (here long e) = inl (omega arith, omega arith)
 file-or file (past short (within b)) =
-    let x = broken-number (b .before) (b .later) (rw (b .order) at (file-numbered (bitsOf file) (decode file))) (b .breaks) in
+    let x = broken-number (b .before) (b .first) (b .later) (rw (b .order) at (file-numbered (bitsOf file) (decode file))) (b .breaks) in
     inl (omega (arith, x .0), omega (arith, x .1))
 file-or file (past short (beyond all (here unpadded e))) = inl (omega arith, omega arith)
 file-or file (past short (beyond all (past padded then))) =

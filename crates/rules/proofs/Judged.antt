@@ -16,10 +16,10 @@ use Rattle.rules.specs.declared.Transfer.{Transfer}
 use Rattle.rules.specs.declared.Condition.{Condition}
 use Rattle.rules.specs.declared.MeterHead.{MeterHead}
 use Rattle.rules.specs.declared.Read.{Read}
-use Rattle.rules.specs.Lists.{All, Some}
+use Rattle.rules.specs.Lists.{All}
 use Rattle.rules.specs.Calendar.{noDay}
 use Rattle.rules.specs.Litres.{dialValues}
-use Rattle.rules.specs.Lawful.{Record, header, band, point, transfer, condition, meter, read, IsDay, Between, DryInWater, HeaderInRange, BandInRange, PointInRange, TransferInRange, ConditionInRange, MeterInRange, ReadInRange, Above, Turned, Rule, rule, rulesFor, rulesOf}
+use Rattle.rules.specs.Lawful.{Record, header, band, point, transfer, condition, meter, read, IsDay, Between, DryInWater, HeaderInRange, BandInRange, PointInRange, TransferInRange, ConditionInRange, MeterInRange, ReadInRange, Above, Turned, Rule, rule, rulesFor, rulesOf, Breaks}
 use Rattle.rules.specs.Refusal.{when, outside, headerOutside, bandOutside, pointOutside, transferOutside, conditionOutside, meterOutside, readOutside, bandRule, pointRule, transferRule, conditionRule, meterRule, readRule}
 
 -- TESTS: each is false exactly where what it tries is so
@@ -193,16 +193,17 @@ all-from {low} (judge number e tries rest) k h = let n = numbered low number e i
 -- either all are kept and the number is 0, or it is the least of those that are broken
 pub data Outcome (low : ℕ) (rules : List Rule) (n : ℕ) : Type 1 where
   keeps : n ≡ 0 → All (λ rule. rule .Kept) rules → Outcome low rules n
-  breaks : Some (λ rule. (rule .number ≡ n) × ¬ (rule .Kept)) rules → All (λ rule. ¬ (rule .Kept) → n ≤ rule .number) rules → low ≤ n → n ≤ 11 → Outcome low rules n
+  breaks : Breaks rules n → low ≤ n → n ≤ 11 → Outcome low rules n
 
 kept-first : {low number n : ℕ} {Kept : Type 0} {rules : List Rule} → Kept → low ≤ number → Outcome (suc number) rules n → Outcome low (rule number Kept ∷ rules) n
 kept-first kept from (keeps is all) = keeps is (kept, all)
-kept-first kept from (breaks broken least more few) = breaks (inr broken) (λ b. absurd (b kept), least) (omega arith) few
+kept-first kept from (breaks b more few) = breaks (record { broken = inr (b .broken); least = (λ broken. absurd (broken kept), b .least) }) (omega arith) few
 
 pub outcome : {low n : ℕ} {rules : List Rule} → Judged low rules n → Outcome low rules n
 outcome clear = keeps refl tt
 outcome {low} (judge {t = true} number e tries rest) =
-    breaks (inl (refl, λ kept. let e = tries .1 kept in let z : _≡_ {A = ℕ} 0 1 = cc in omega arith)) (λ b. omega arith, all-from rest number (omega arith)) (numbered low number e .0) (numbered low number e .1)
+    let range = numbered low number e in
+    breaks (record { broken = inl (refl, λ kept. let f = tries .1 kept in let z : _≡_ {A = ℕ} 0 1 = cc in omega arith); least = (λ b. omega arith, all-from rest number (omega arith)) }) (range .0) (range .1)
 outcome {low} (judge {t = false} number e tries rest) = kept-first (tries .0 refl) (numbered low number e .0) (outcome rest)
 
 -- where the number is 0 all are kept
@@ -211,7 +212,7 @@ kept {n} {rules} j z = go (outcome j)
   where
     go : Outcome 2 rules n → All (λ rule. rule .Kept) rules
     go (keeps is all) = all
-    go (breaks broken least low few) = absurd (omega arith)
+    go (breaks b low few) = absurd (omega arith)
 
 -- EACH RECORD
 -- where a record's number is 0 it lacks no bits

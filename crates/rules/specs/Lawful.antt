@@ -219,10 +219,10 @@ pub record Lawful (file : List ℕ) : Type 0 where
   pub few : providersIn file ≤ 64
 
 -- THE FIRST BREACH
--- n is the number of a rule that the record breaks, and the least
-pub record Breaks (bits : ℕ) (p : Placed) (n : ℕ) : Type 0 where
-  pub broken : Some (λ rule. (rule .number ≡ n) × ¬ (rule .Kept)) (rulesOf bits p)
-  pub least : All (λ rule. ¬ (rule .Kept) → n ≤ rule .number) (rulesOf bits p)
+-- n is the number of one of the rules that is broken, and the least
+pub record Breaks (rules : List Rule) (n : ℕ) : Type 0 where
+  pub broken : Some (λ rule. (rule .number ≡ n) × ¬ (rule .Kept)) rules
+  pub least : All (λ rule. ¬ (rule .Kept) → n ≤ rule .number) rules
 
 -- n is that of the first record that breaks a rule: all before it break none
 pub record FirstBroken (bits : ℕ) (records : List Placed) (n : ℕ) : Type 0 where
@@ -231,7 +231,7 @@ pub record FirstBroken (bits : ℕ) (records : List Placed) (n : ℕ) : Type 0 w
   pub later : List Placed
   pub order : records ≡ before ++ (first ∷ later)
   pub kept : All (Keeps bits) before
-  pub breaks : Breaks bits first n
+  pub breaks : Breaks (rulesOf bits first) n
 
 -- n is a breach's number where it is there, and else what comes after it says
 pub data First (Breach : Type 0) (number : ℕ) (Then : ℕ → Type 0) (n : ℕ) : Type 0 where
