@@ -17,7 +17,11 @@ use Rattle.rules.specs.Lawful.{Lawful}
 use Rattle.rules.specs.Settlement.{rows}
 use Rattle.rules.specs.Report.{report}
 use Rattle.rules.specs.Services.{written, rowsNumber, rowsAnswer, rowsAfter, zeroStatement, statementAt, statementAnswer, reportNumber, reportAnswer, reportAfter}
-use Rattle.rules.specs.Promises.{RowsNumbered, StatementNumbered, ReportNumbered, Demand1}
+use Rattle.rules.specs.Promises.{RowsNumbered, StatementNumbered, ReportNumbered, Counted, Demand1}
+use Rattle.rules.proofs.Lists.{all-all}
+use Rattle.rules.proofs.Providers.{listed}
+use Rattle.rules.proofs.InForce.{owned}
+use Rattle.rules.proofs.Accepted.{sound-good}
 use Rattle.rules.proofs.Breaches.{none-says, when-says, breach-says, first-breach, accepted-lawful}
 use Rattle.rules.proofs.Kept.{answered, refused}
 use Rattle.rules.proofs.Numbers.{room-says, none-free, number-low}
@@ -138,17 +142,38 @@ unfolding reportNumber reportAfter
 report-numbered file space =
     let room = length space in
     let free = report-free file room in
+    let says = room-says file room (size file room) in
     record {
+      first = λ n. (
+        λ x.
+            let y = report-number file room (under-52 file room (omega (arith, x .0, x .1))) in
+            (says n .0 (sym (y .0) ∙ x .0), omega (arith, x .0, y .0, y .1)),
+        λ x.
+            let e = says n .1 (x .0) in
+            let y = report-number file room (λ none. omega (arith, e, none, x .1)) in
+            (y .0 ∙ e, omega (arith, e, y .2)),
+      );
       free = (
         λ h. let x = free .0 (from-52 file room h) in (x .0, omega (arith, x .1)),
         λ x. let y = report-length file room (free .1 (x .0, λ short. omega (arith, x .1))) in omega (arith, y .0, y .1),
       );
-      first = λ h. room-says file room (size file room) _ .0 (sym (report-number file room (under-52 file room h) .0));
-      refused = λ h.
-          let refuses = under-52 file room h in
-          let x = report-number file room refuses in
-          (omega (arith, x .0, x .1), as-it-was _ (report (decode file)) space refuses);
+      refused = λ h. as-it-was _ (report (decode file)) space (under-52 file room h);
     }
 
+-- WHAT 13 COUNTS
+counted : (file : List ℕ) → Counted file
+counted file =
+    let t = decode file .tariff in
+    let ps = decode file .points in
+    record { providers = listed t ps; owned = λ sound. all-all (owned t (t .service)) ps (sound-good file sound .points) }
+
 pub demand-1 : Demand1
-demand-1 = record { lawful = accepted-lawful; first = first-breach; rows = rows-numbered; statement = statement-numbered; report = report-numbered }
+demand-1 =
+    record {
+      lawful = accepted-lawful;
+      first = first-breach;
+      counted = counted;
+      rows = rows-numbered;
+      statement = statement-numbered;
+      report = report-numbered;
+    }

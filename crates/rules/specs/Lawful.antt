@@ -135,9 +135,9 @@ Above key none a = Unit {0}
 Above key (some b) a = key b < key a
 
 -- the first transfer is not after connection
-abbrev pub Supplied : ℕ → Option Transfer → Transfer → Type 0
-Supplied connected none t = t .day ≤ connected
-Supplied connected (some before) t = Unit {0}
+abbrev pub FromConnection : ℕ → Option Transfer → Transfer → Type 0
+FromConnection connected none t = t .day ≤ connected
+FromConnection connected (some before) t = Unit {0}
 
 -- rollover is not set on a first read, and on another exactly when the value falls
 abbrev pub Turned : Option Read → Read → Type 0
@@ -145,9 +145,9 @@ Turned none r = r .rollover ≡ 0
 Turned (some before) r = (r .value < before .value → r .rollover ≡ 1) × (before .value ≤ r .value → r .rollover ≡ 0)
 
 -- at most 3,660 days between reads
-abbrev pub Near : Option Read → Read → Type 0
-Near none r = Unit {0}
-Near (some before) r = r .day ≤ before .day + 3660
+abbrev pub SoonAfter : Option Read → Read → Type 0
+SoonAfter none r = Unit {0}
+SoonAfter (some before) r = r .day ≤ before .day + 3660
 
 -- THE RULES
 -- what a rule asks, and the number of its breach: 2 a record lacks bits; 3 mark or version; 4 field outside its range; 5 band sizes, point numbers,
@@ -167,7 +167,7 @@ rulesFor (header h) = rule 3 ((h .mark ≡ 0x5753) × (h .version ≡ 1)) ∷ ru
 rulesFor (band before b) = rule 4 (BandInRange b) ∷ rule 5 (Above (λ b. b .size) before b) ∷ []
 rulesFor (point before p) = rule 4 (PointInRange p) ∷ rule 5 (Above (λ p. p .number) before p) ∷ rule 8 (p .connected ≤ p .disconnected) ∷ []
 rulesFor (transfer connected before t) =
-    rule 4 (TransferInRange t) ∷ rule 5 (Above (λ t. t .day) before t) ∷ rule 6 (Supplied connected before t) ∷ []
+    rule 4 (TransferInRange t) ∷ rule 5 (Above (λ t. t .day) before t) ∷ rule 6 (FromConnection connected before t) ∷ []
 rulesFor (condition service before c) =
     rule 4 (ConditionInRange service c) ∷ rule 5 (Above (λ c. c .day) before c) ∷ rule 7 (c .schedule3 + c .section29e ≤ 10000) ∷ []
 rulesFor (meter service m) = rule 4 (MeterInRange service m) ∷ rule 8 (m .installed ≤ m .removed) ∷ []
@@ -176,7 +176,7 @@ rulesFor (read m before r) =
     ∷ rule 5 (Above (λ r. r .day) before r)
     ∷ rule 9 ((m .installed ≤ r .day) × (r .day ≤ m .removed))
     ∷ rule 10 (Turned before r)
-    ∷ rule 11 (Near before r)
+    ∷ rule 11 (SoonAfter before r)
     ∷ []
 
 -- and, before them, by its place: it ends within the file's bits

@@ -14,47 +14,13 @@ use Rattle.rules.specs.Lists.{All, Some, Lists, IsLatest}
 use Rattle.rules.specs.Calendar.{aprilFirst}
 use Rattle.rules.specs.File.{Tariff, Supply, Point, File, decode}
 use Rattle.rules.specs.Refusal.{refusal}
-use Rattle.rules.specs.Lawful.{Lawful, First, NoBreach, FirstBreach}
+use Rattle.rules.specs.Lawful.{Sound, Lawful, First, NoBreach, FirstBreach}
 use Rattle.rules.specs.Charges.{overCharged, Charge, charges}
 use Rattle.rules.specs.Settlement.{amount, pointCharge, statement, providerOn, overProviders, providerCharge, providerAt, providersOf, rows}
 use Rattle.rules.specs.Report.{report}
 use Rattle.rules.specs.Services.{rowsAnswer, rowsAfter, zeroStatement, statementAnswer, reportAnswer, reportAfter}
 
--- DEMAND 1
--- A file that breaks a rule, a space too short or a point that is not there: the call returns the number of the first breach in the listed
--- order and changes nothing lent to it. Without a breach it never refuses.
-
--- of the rows service: 14 where the table has fewer entries than there are rows
-pub record RowsNumbered (file : List ℕ) (table : List Row) : Type 0 where
-  pub first : (n : ℕ) → (rowsAnswer file (length table) .number ≡ n) ↔ FirstBreach file (First (length table < length (rows (decode file))) 14 NoBreach) n
-  pub free : (rowsAnswer file (length table) .number ≡ 0) ↔ (Lawful file × (length (rows (decode file)) ≤ length table))
-  pub refused : ¬ (rowsAnswer file (length table) .number ≡ 0) → (rowsAnswer file (length table) .count ≡ 0) × (rowsAfter file table ≡ table)
-
--- of the statement service: 15 where there is no point at that place
-pub record StatementNumbered (file : List ℕ) (place : ℕ) : Type 0 where
-  pub first : (n : ℕ) → (statementAnswer file place .number ≡ n) ↔ FirstBreach file (First (length (decode file .points) ≤ place) 15 NoBreach) n
-  pub free : (statementAnswer file place .number ≡ 0) ↔ (Lawful file × (place < length (decode file .points)))
-  pub refused : ¬ (statementAnswer file place .number ≡ 0) → statementAnswer file place .statement ≡ zeroStatement
-
--- of the report service, whose one number is a length from 52 on, and else a refusal's: 14 where the space is shorter than the report
-pub record ReportNumbered (file space : List ℕ) : Type 0 where
-  pub free : (52 ≤ reportAnswer file (length space)) ↔ (Lawful file × (length (report (decode file)) ≤ length space))
-  pub first : reportAnswer file (length space) < 52 → FirstBreach file (First (length space < length (report (decode file))) 14 NoBreach) (reportAnswer file (length space))
-  pub refused : reportAnswer file (length space) < 52 → (1 ≤ reportAnswer file (length space)) × (reportAfter file space ≡ space)
-
--- Demand 1 whole
-pub record Demand1 : Type 0 where
-  pub lawful : (file : List ℕ) → (refusal file ≡ 0) ↔ Lawful file
-  pub first : (file : List ℕ) (n : ℕ) → (refusal file ≡ n) ↔ FirstBreach file NoBreach n
-  pub rows : (file : List ℕ) (table : List Row) → RowsNumbered file table
-  pub statement : (file : List ℕ) (place : ℕ) → StatementNumbered file place
-  pub report : (file space : List ℕ) → ReportNumbered file space
-
--- DEMAND 3
--- a file is accepted when it breaks none of 1 to 12, nor 13
-abbrev pub Accepted : List ℕ → Type 0
-Accepted bytes = refusal bytes ≡ 0
-
+-- CHARGED DAYS
 -- a charged day of a point: of the year, from its connection day, before its disconnection day
 pub record ChargedDay (tariff : Tariff) (supply : Supply) (d : ℕ) : Type 0 where
   pub started : aprilFirst (tariff .year) ≤ d
@@ -83,6 +49,50 @@ HasDay tariff p point = (d : ℕ) × ChargedDay tariff (point .supply) d × (pro
 -- the list has the providers with a charged day at one of the points
 abbrev pub ListsProviders : Tariff → List Point → List ℕ → Type 0
 ListsProviders tariff points ps = Lists (λ p. Some (HasDay tariff p) points) ps
+
+-- DEMAND 1
+-- A file that breaks a rule, a space too short or a point that is not there: the call returns the number of the first breach in the listed
+-- order and changes nothing lent to it. Without a breach it never refuses.
+
+-- of the rows service: 14 where the table has fewer entries than there are rows
+pub record RowsNumbered (file : List ℕ) (table : List Row) : Type 0 where
+  pub first : (n : ℕ) → (rowsAnswer file (length table) .number ≡ n) ↔ FirstBreach file (First (length table < length (rows (decode file))) 14 NoBreach) n
+  pub free : (rowsAnswer file (length table) .number ≡ 0) ↔ (Lawful file × (length (rows (decode file)) ≤ length table))
+  pub refused : ¬ (rowsAnswer file (length table) .number ≡ 0) → (rowsAnswer file (length table) .count ≡ 0) × (rowsAfter file table ≡ table)
+
+-- of the statement service: 15 where there is no point at that place
+pub record StatementNumbered (file : List ℕ) (place : ℕ) : Type 0 where
+  pub first : (n : ℕ) → (statementAnswer file place .number ≡ n) ↔ FirstBreach file (First (length (decode file .points) ≤ place) 15 NoBreach) n
+  pub free : (statementAnswer file place .number ≡ 0) ↔ (Lawful file × (place < length (decode file .points)))
+  pub refused : ¬ (statementAnswer file place .number ≡ 0) → statementAnswer file place .statement ≡ zeroStatement
+
+-- of the report service, whose one number is a length from 52 on, and else a refusal's: 14 where the space is shorter than the report
+pub record ReportNumbered (file space : List ℕ) : Type 0 where
+  pub first : (n : ℕ) →
+      ((reportAnswer file (length space) ≡ n) × (n < 52))
+      ↔ (FirstBreach file (First (length space < length (report (decode file))) 14 NoBreach) n × (1 ≤ n))
+  pub free : (52 ≤ reportAnswer file (length space)) ↔ (Lawful file × (length (report (decode file)) ≤ length space))
+  pub refused : reportAnswer file (length space) < 52 → reportAfter file space ≡ space
+
+-- What 13 counts: the providers with a charged day, each once. Where none of 1 to 12 is broken, each such day belongs to the provider of the
+-- latest transfer on or before it.
+pub record Counted (file : List ℕ) : Type 0 where
+  pub providers : ListsProviders (decode file .tariff) (decode file .points) (providersOf (decode file .tariff) (decode file .points))
+  pub owned : Sound file → All (DaysOwned (decode file .tariff)) (decode file .points)
+
+-- Demand 1 whole
+pub record Demand1 : Type 0 where
+  pub lawful : (file : List ℕ) → (refusal file ≡ 0) ↔ Lawful file
+  pub first : (file : List ℕ) (n : ℕ) → (refusal file ≡ n) ↔ FirstBreach file NoBreach n
+  pub counted : (file : List ℕ) → Counted file
+  pub rows : (file : List ℕ) (table : List Row) → RowsNumbered file table
+  pub statement : (file : List ℕ) (place : ℕ) → StatementNumbered file place
+  pub report : (file space : List ℕ) → ReportNumbered file space
+
+-- DEMAND 3
+-- a file is accepted when it breaks none of 1 to 12, nor 13
+abbrev pub Accepted : List ℕ → Type 0
+Accepted bytes = refusal bytes ≡ 0
 
 -- a point's providers: those to whom a charged day belongs
 abbrev pub providersAt : Tariff → Point → List ℕ
