@@ -1,6 +1,5 @@
-//! The second implementation of document 01 and of requests of document 02,
-//! written to be compared with the first: plain rather than clever. Words in
-//! quotation marks are the papers'.
+//! The second implementation of document 01, written to be compared with the
+//! first: plain rather than clever. Words in quotation marks are the paper's.
 
 pub mod bits;
 pub mod calendar;

@@ -1,5 +1,5 @@
 -- The bands of a tariff, one at a time: their sizes, and which of them serves. Assumes nothing.
-use Prim.Native.Nat.{ℕ, suc, ◌+◌, ◌-◌, ◌≤◌, ◌<◌, zero-le}
+use Prim.Native.Nat.{ℕ, suc, ◌+◌, ◌-◌, ◌*◌, ◌≤◌, ◌<◌, zero-le}
 use mathlib.Core.Path.{◌≡◌, refl, sym, ap, ◌∙◌, subst}
 use mathlib.Core.Bool.{Bool, true, false, cond}
 use mathlib.Core.List.{List, [], ◌∷◌, map}
@@ -22,7 +22,7 @@ module _ {file : List ℕ} {at : ℕ} where
   pub sizes_none : (sizes : List ℕ) → SizesOf file 0 at sizes
   sizes_none sizes = record { long = zero-le; each = λ i h. absurd (omega arith) }
 
-  pub sizes_more : {k : ℕ} {sizes : List ℕ} (size : ℕ) → SizesOf file k at sizes → k < length sizes → size ≡ (band_at file (after_bands at (bands file k at))).size → SizesOf file (k + 1) at (set sizes k size)
+  pub sizes_more : {k : ℕ} {sizes : List ℕ} (size : ℕ) → SizesOf file k at sizes → k < length sizes → size ≡ (band_at file (at + k * 90)).size → SizesOf file (k + 1) at (set sizes k size)
   sizes_more {k} {sizes} size u h e =
       record {
         long = omega (arith, length-set sizes k size);
@@ -39,7 +39,7 @@ module _ {file : List ℕ} {at : ℕ} where
   sizes_to count u h = record { long = omega (arith, u.long); each = λ i q. u.each i (omega arith) }
 
   -- the size of the first band that is left
-  pub size_next : {count left next : ℕ} {sizes : List ℕ} (k : ℕ) → SizesOf file count at sizes → k + left ≡ count → next ≡ after_bands at (bands file k at) → 0 < left → get_or sizes k 0 ≡ (band_at file next).size
+  pub size_next : {count left next : ℕ} {sizes : List ℕ} (k : ℕ) → SizesOf file count at sizes → k + left ≡ count → next ≡ at + k * 90 → 0 < left → get_or sizes k 0 ≡ (band_at file next).size
   size_next k u n e h = u.each k (omega arith) ∙ ap (λ p. (band_at file p).size) (sym e)
 
 -- BANDS: `served` is what serves a size, of the band that stands at `best` and then the bands that are left, whose sizes ascend

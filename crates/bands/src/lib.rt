@@ -19,8 +19,8 @@ fn no_band() -> Band
     }
 }
 
-// The sizes of a tariff's bands, of which it has at most 24. Every meter of the file looks its band up in them, so that they are read from the file
-// once, and not again for each meter.
+// The sizes of a tariff's bands, of which it has at most 24. A band has 90 bits, and its size comes first. Every meter of the file looks its band
+// up in them, so that they are read from the file once, and not again for each meter.
 pub fn band_sizes(file: &[u8], c: Cursor, count: u64) -> [u64; 24]
     requires { (count ≤ 24) × (after_bands c.at (bands_from file.now count c.at) < 2 ^ 32) }
     ensures { SizesOf file.now count c.at result }
@@ -30,9 +30,9 @@ pub fn band_sizes(file: &[u8], c: Cursor, count: u64) -> [u64; 24]
     let mut next = c;
     let mut k: usize = 0;
     while k < bands {
-        let taken = records::band_size(file, next);
+        let taken = next.take(file, 16);
         sizes[k] = taken.value;
-        next = taken.next;
+        next = Cursor { at: next.at + 90 };
         k += 1;
     }
     sizes
@@ -55,7 +55,7 @@ pub fn band_for<'a>(file: &'a [u8], c: Cursor, count: u64, sizes: &'a [u64], siz
         if size < sizes[k] {
             break;
         }
-        best = records::after_band(best);
+        best = Cursor { at: best.at + 90 };
         k += 1;
         left -= 1;
     }

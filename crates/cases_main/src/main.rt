@@ -137,9 +137,9 @@ fn print_statement(place: u64, answer: StatementAnswer) {
     print_charges(charges);
 }
 
-// No file has more than 256 points, so that the 257th place is refused.
+// No file has more than 64 points, so that the 65th place is refused.
 fn print_statements(file: &[u8]) {
-    for place in 0..257 {
+    for place in 0..65 {
         let answer = unit::statement(file, place);
         print_statement(place, answer);
         if answer.number != 0 {

@@ -14,7 +14,7 @@ use Rattle.rules.specs.File.{records, transfer_at, after_transfer, transfers, co
 use Rattle.rules.specs.Charges.{no_condition}
 use Rattle.rules.specs.Good.{FirstBy}
 use Rattle.rules.proofs.Lists.{ascending_lower, latest_here, latest_ahead}
-use Rattle.rules.proofs.Positions.{forward}
+use Rattle.records.proofs.Positions.{forward}
 use Rattle.records.proofs.Ahead.{read_one, read_past}
 use Rattle.records.specs.Conditions.{condition_of}
 use Rattle.charged.specs.Charged.{first_entry}

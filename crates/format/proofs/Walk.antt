@@ -1,18 +1,16 @@
 -- What holds at the head of each loop of `check`, and the ways on from there: out by a record's number, past a record, out of a list that is
 -- done. Assumes nothing.
 use Prim.Native.Nat.{ℕ, ◌+◌, ◌≤◌, ◌<◌, ◌^◌}
-use mathlib.Core.Path.{◌≡◌, sym, ap, ◌∙◌}
+use mathlib.Core.Path.{◌≡◌, sym, ◌∙◌}
 use mathlib.Core.List.{List, [], ◌∷◌}
 use native.Mathlib.Omega.{arith}
 use lib.ListN.{length}
 use borrow.Author.Tests.{lt-ltb}
-use Rattle.rules.specs.declared.Form.{Form}
 use Rattle.rules.specs.declared.Header.{Header}
 use Rattle.rules.specs.declared.PointHead.{PointHead}
 use Rattle.rules.specs.declared.MeterHead.{MeterHead}
-use Rattle.rules.specs.Form.{form_of, form_at}
 use Rattle.rules.specs.File.{header_at, bands_at}
-use Rattle.rules.specs.Refusal.{header_rule, band_rule, point_rule, transfer_rule, condition_rule, meter_rule, read_rule, padding_number, first_or, file_refusal_in, file_refusal}
+use Rattle.rules.specs.Refusal.{header_rule, band_rule, point_rule, transfer_rule, condition_rule, meter_rule, read_rule, padding_number, first_or, file_refusal}
 use Rattle.rules.proofs.Fields.{field_lt}
 use Rattle.rules.proofs.Judged.{lacks_none}
 use Rattle.format.proofs.Rest.{Kind, band_list, transfer_list, condition_list, read_list, meter_list, point_list, Head, State, head_at, past, rule, Rest, list, padding, onward, opened, rest_number, end, first_stop, first_go, list_done, list_turn, file_turn, padding_turn}
@@ -91,24 +89,19 @@ ends {b} {kind} {n} {i} {at} {s} {rest} a l = record { whole = a.whole ∙ list_
 -- ---- before and after the lists
 
 pub too_long : (b : List ℕ) → 65536 < length b → 1 ≡ file_refusal b
-unfolding file_refusal_in
+unfolding file_refusal
 too_long b h = simp (lt-ltb _ _ h)
 
-module _ (b : List ℕ) {v : Header} {next : ℕ} {form : Form} (f : (v ≡ header_at b) × (next ≡ bands_at (form_at b))) (o : form ≡ form_of v.version) where
-  -- it was read by the file's own form
-  own : form ≡ form_at b
-  own = o ∙ ap (λ (h : Header). form_of h.version) f.0
+module _ (b : List ℕ) {v : Header} {next number : ℕ} (short : length b ≤ 65536) (f : (v ≡ header_at b) × (next ≡ bands_at)) (j : number ≡ header_rule (end b) v) where
+  judged_header : file_refusal b ≡ first_or (number ∷ []) (rest_number b (opened v) next)
+  judged_header = rw (j, f.1, f.0) (file_turn b short)
 
-  module _ {number : ℕ} (short : length b ≤ 65536) (j : number ≡ header_rule form (end b) next v) where
-    judged_header : file_refusal b ≡ first_or (number ∷ []) (rest_number b (opened v) next)
-    judged_header = rw (j, own, f.1, f.0) (file_turn b short)
+  pub header_stops : (number ≡ 0 → ⊥) → number ≡ file_refusal b
+  header_stops h = sym (judged_header ∙ first_stop _ _ h)
 
-    pub header_stops : (number ≡ 0 → ⊥) → number ≡ file_refusal b
-    header_stops h = sym (judged_header ∙ first_stop _ _ h)
-
-    pub opens : number ≡ 0 → At b next (opened v)
-    unfolding header_rule
-    opens h = record { whole = judged_header ∙ first_go _ _ h; short = short; within = lacks_none (end b) next _ (sym j ∙ h) }
+  pub opens : number ≡ 0 → At b next (opened v)
+  unfolding header_rule
+  opens h = let ends = lacks_none (end b) bands_at _ (sym j ∙ h) in record { whole = judged_header ∙ first_go _ _ h; short = short; within = omega (arith, ends, f.1) }
 
 pub file_ends : {b : List ℕ} {at number : ℕ} → At b at padding → number ≡ padding_number b at → number ≡ file_refusal b
 file_ends {b} {at} a e = e ∙ sym (a.whole ∙ padding_turn b at)

@@ -3,7 +3,7 @@ ghost use Rattle.std.specs.Prelude.{◌≡◌, ◌*◌, ◌≤◌, length};
 ghost use Rattle.rules.specs.Refusal.{padding_number, file_refusal};
 
 use bits::Cursor;
-use rules::{Day, Form};
+use rules::Day;
 
 // The most bytes of a file.
 const MOST_BYTES: usize = 65536;
@@ -39,8 +39,7 @@ pub fn check(file: &[u8]) -> u64
     let end = file.len() * 8;
     let header = records::header(file);
     let head = header.value;
-    let form = Form::of(head.version);
-    let number = judges::header_number(form, end, header.next.at, head);
+    let number = judges::header_number(end, head);
     if number != 0 {
         return number;
     }

@@ -13,7 +13,7 @@ use Rattle.rules.specs.Litres.{dial_values, litres_per_count, advance, carried_b
 use Rattle.rules.specs.Good.{GoodMeterHead, GoodRead, GoodAdvance, GoodAdvances, GoodMeter}
 use Rattle.rules.proofs.Shares.{div_mono, days_none}
 use Rattle.rules.proofs.Sums.{days_shift}
-use Rattle.rules.proofs.Positions.{length_records}
+use Rattle.records.proofs.Positions.{length_records}
 use Rattle.records.proofs.Ahead.{Ahead, read_one, read_past, ahead_done}
 use Rattle.spans.specs.Spans.{end_in, Cut, Reached, Holds, SumsAdded, RoomAt, Sum, litres_sum, annual_sum, allowance_sum, threshold_sum, litres_of, during, Grown, Room}
 use Rattle.spans.proofs.Days.{during_none, during_zero, during_entry, span_within, grown_on, grown_none, room_on, Adding, adding_none, adding_asks, adding_room, adding_more, reached_first, cut_same, reached_same, reached_before, Rest, rest_all, rest_room, rest_more, rest_none}

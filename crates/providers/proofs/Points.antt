@@ -1,5 +1,5 @@
 -- A point's providers, put into a list by the runs of its transfers. Assumes nothing.
-use Prim.Native.Nat.{ℕ, ◌-◌, ◌^◌, ◌≤◌, ◌<◌}
+use Prim.Native.Nat.{ℕ, ◌+◌, ◌-◌, ◌*◌, ◌^◌, ◌≤◌, ◌<◌}
 use mathlib.Core.Bool.{true, false}
 use mathlib.Core.Path.{◌≡◌, refl, ap, ap₂, sym, ◌∙◌, subst}
 use mathlib.Core.List.{List, [], ◌∷◌}
@@ -9,8 +9,7 @@ use borrow.Author.Tests.{lt-ltb, le-ltb}
 use Rattle.rules.specs.declared.Header.{Header}
 use Rattle.rules.specs.declared.PointHead.{PointHead}
 use Rattle.rules.specs.declared.Transfer.{Transfer}
-use Rattle.rules.specs.Form.{form_at}
-use Rattle.rules.specs.File.{Tariff, Supply, Point, records, header_at, bands_at, bands, after_bands, points as points_from, point_head_at, point_at, transfers, transfers_from, after_point, decode_in, decode}
+use Rattle.rules.specs.File.{Tariff, Supply, Point, records, header_at, bands_at, points as points_from, point_head_at, point_at, transfers, transfers_from, after_point, decode}
 use Rattle.rules.specs.Charges.{charged_from, charged_count}
 use Rattle.rules.specs.Settlement.{insert_days, providers_and, providers_of}
 use Rattle.rules.specs.Good.{FirstBy, GoodPoint, Good}
@@ -94,19 +93,19 @@ module _ (b : List ℕ) where
     pub holds : Holds list count so_far
     pub whole : providers_and (decode b).tariff so_far (points_from b left at) ≡ providers_of (decode b).tariff (decode b).points
 
-  pub listing_start : Good b → {head : Header} {start from : ℕ} → (head ≡ header_at b) × (start ≡ bands_at (form_at b)) → from ≡ after_bands start (bands b head.bands start) →
-      {list : List ℕ} → length list ≡ 64 → Listing head.year head.points from list 0
-  unfolding providers_of decode_in
-  listing_start g {head} e t long =
+  pub listing_start : Good b → {head : Header} {start : ℕ} → (head ≡ header_at b) × (start ≡ bands_at) → {list : List ℕ} → length list ≡ 64 →
+      Listing head.year head.points (start + head.bands * 90) list 0
+  unfolding providers_of decode
+  listing_start g {head} e long =
       record {
         is = ap (λ (h : Header). h.year) (sym e.0);
         from = year_from_lem b g e;
         to = year_to_lem b g e;
-        points = points_start b g e t;
+        points = points_start b g e;
         lent = record { few = omega arith; long = long; ascend = tt };
         so_far = [];
         holds = refl;
-        whole = ap (providers_and (decode b).tariff []) (file_points b e t);
+        whole = ap (providers_and (decode b).tariff []) (file_points b g e);
       }
 
   pub listing_next : {year left at next count more : ℕ} {list out : List ℕ} → Listing year left at list count → 0 < left → WithPoint b at year list count out more next →

@@ -1,25 +1,15 @@
--- Passing over lists: records of one width by their count, and meters one by one. Assumes nothing.
+-- Passing over a point's lists: fixed widths by their count, and meters one by one. Assumes nothing.
 use Prim.Native.Nat.{ℕ, zero, suc, ◌+◌, ◌-◌, ◌*◌, ◌^◌, ◌≤◌, ◌<◌}
-use mathlib.Core.Path.{◌≡◌, refl, sym, ap, ap₂, ◌∙◌}
+use mathlib.Core.Path.{◌≡◌, sym, ap, ap₂, ◌∙◌}
 use mathlib.Core.List.{List}
 use native.Mathlib.Omega.{arith}
 use Rattle.bits.specs.Took.{Took}
 use Rattle.rules.specs.declared.PointHead.{PointHead}
-use Rattle.rules.specs.File.{records, after, band_at, bands, after_band, after_bands, read_at, meter_head_at, meter_at, point_head_at, point_at, transfer_at, condition_at, reads, meters, conditions, transfers, transfers_from, reads_from, after_meter, after_meters, after_transfer, after_transfers, after_condition, after_conditions, after_point}
+use Rattle.rules.specs.File.{records, after, read_at, meter_head_at, meter_at, point_head_at, point_at, transfer_at, condition_at, reads, meters, conditions, transfers, transfers_from, reads_from, after_meter, after_meters, after_transfers, after_point}
 use Rattle.records.specs.Lists.{after_lists}
-use Rattle.rules.proofs.Positions.{forward, meter_forward, list_small, records_wide}
+use Rattle.records.proofs.Positions.{forward, meter_forward, records_wide}
 
 module _ (b : List ℕ) where
-  -- from band to band
-  pub bands_wide : (n at : ℕ) → after_bands at (bands b n at) ≡ at + n * 90
-  bands_wide n at = records_wide 90 (band_at b) n at
-
-  pub bands_more : (k at : ℕ) → after_bands at (bands b (k + 1) at) ≡ after_band (after_bands at (bands b k at))
-  bands_more k at = omega (arith, bands_wide (k + 1) at, bands_wide k at)
-
-  pub bands_within : {k n : ℕ} (at : ℕ) → k ≤ n → after_bands at (bands b k at) ≤ after_bands at (bands b n at)
-  bands_within {k} {n} at h = omega (arith, bands_wide k at, bands_wide n at)
-
   pub meters_ahead : (n at : ℕ) → at ≤ after_meters at (meters b n at)
   meters_ahead n at = forward meter_forward at (meters b n at)
 
@@ -56,28 +46,27 @@ module _ (b : List ℕ) where
       meter_past = record { rest = ap (λ p. after_meters p (meters b (left - 1) p)) past ∙ (meters_one left at h ∙ m.rest); small = m.small }
 
   -- past a point's conditions
-  module _ (at : ℕ) (head : PointHead) where
-    lists_ahead : after_conditions at (conditions b head.conditions at) ≤ after_lists b at head
-    lists_ahead = meters_ahead head.meters (after_conditions at (conditions b head.conditions at))
+  pub lists_from : (at : ℕ) (head : PointHead) → let from = at + head.conditions * 72 in after_meters from (meters b head.meters from) ≡ after_lists b at head
+  lists_from at head = ap (λ from. after_meters from (meters b head.meters from)) (sym (records_wide 72 (condition_at b) head.conditions at))
 
-    pub conditions_few : after_lists b at head < 2 ^ 32 → (at < 2 ^ 32) × (head.conditions < 2 ^ 32)
-    conditions_few small = list_small (condition_at b) {next = λ at x. after_condition at} (λ at x. omega arith) head.conditions at (omega (arith, lists_ahead))
+  pub lists_small : (at : ℕ) (head : PointHead) → after_lists b at head < 2 ^ 32 → at + head.conditions * 72 < 2 ^ 32
+  lists_small at head small = omega (arith, lists_from at head, meters_ahead head.meters (at + head.conditions * 72))
 
-    pub lists_past : {from : ℕ} → from ≡ after_conditions at (conditions b head.conditions at) → after_meters from (meters b head.meters from) ≡ after_lists b at head
-    lists_past t = ap (λ from. after_meters from (meters b head.meters from)) t
-
-  -- past a point's transfers: where they end, the conditions begin
+  -- past a point's transfers
   module _ (at : ℕ) {head : PointHead} {next : ℕ} (e : (head ≡ point_head_at b at) × (next ≡ transfers_from at)) where
-    abbrev conditions_from : ℕ
-    conditions_from = after_transfers next (transfers b head.transfers next)
-
-    pub point_past : {from : ℕ} → from ≡ conditions_from → after_lists b from head ≡ after_point at (point_at b at)
+    pub point_past : after_lists b (next + head.transfers * 32) head ≡ after_point at (point_at b at)
     unfolding point_at
-    point_past t = rw (t, e.0, e.1)
+    point_past =
+        ap (λ p. after_lists b (p + head.transfers * 32) head) e.1
+        ∙ (ap (λ (h : PointHead). after_lists b (transfers_from at + h.transfers * 32) h) e.0
+        ∙ ap (λ from. after_lists b from (point_head_at b at)) (sym (records_wide 32 (transfer_at b) (point_head_at b at).transfers (transfers_from at))))
 
-    module _ (small : after_point at (point_at b at) < 2 ^ 32) where
-      pub transfers_small : conditions_from < 2 ^ 32
-      transfers_small = (conditions_few conditions_from head (omega (arith, small, point_past refl))).0
+    pub point_small : after_point at (point_at b at) < 2 ^ 32 → next + head.transfers * 32 < 2 ^ 32
+    point_small small = omega (arith, point_past, lists_small (next + head.transfers * 32) head (omega (arith, point_past)))
 
-      pub transfers_few : (next < 2 ^ 32) × (head.transfers < 2 ^ 32)
-      transfers_few = list_small (transfer_at b) {next = λ at x. after_transfer at} (λ at x. omega arith) head.transfers next transfers_small
+    -- where the transfers end, the conditions begin
+    pub point_lists : after_lists b (after_transfers next (transfers b head.transfers next)) head ≡ after_point at (point_at b at)
+    point_lists = ap (λ from. after_lists b from head) (records_wide 32 (transfer_at b) head.transfers next) ∙ point_past
+
+    pub transfers_small : after_point at (point_at b at) < 2 ^ 32 → after_transfers next (transfers b head.transfers next) < 2 ^ 32
+    transfers_small small = omega (arith, point_small small, records_wide 32 (transfer_at b) head.transfers next)

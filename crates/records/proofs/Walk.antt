@@ -1,16 +1,15 @@
 -- From point to point of an accepted file: the points that are left at a position are its, are sound and end within the file. Assumes nothing.
-use Prim.Native.Nat.{ℕ, zero, suc, ◌-◌, ◌*◌, ◌^◌, ◌≤◌, ◌<◌}
-use mathlib.Core.Path.{◌≡◌, refl, sym, ap, ap₂, ◌∙◌, subst}
+use Prim.Native.Nat.{ℕ, zero, suc, ◌+◌, ◌-◌, ◌*◌, ◌^◌, ◌≤◌, ◌<◌}
+use mathlib.Core.Path.{◌≡◌, refl, sym, ap, ◌∙◌, subst}
 use mathlib.Core.Logic.{inl, inr}
 use mathlib.Core.List.{List, ◌∷◌}
 use native.Mathlib.Omega.{arith}
 use lib.ListN.{length}
 use Rattle.rules.specs.declared.Header.{Header}
 use Rattle.rules.specs.Lists.{All, In}
-use Rattle.rules.specs.Form.{form_at}
-use Rattle.rules.specs.File.{Point, records, after, header_at, band_at, point_at, points, bands_at, bands, after_band, after_bands, after_point, after_points, decode_in, decode}
+use Rattle.rules.specs.File.{Point, records, after, header_at, band_at, point_at, points, bands_at, bands, after_bands, after_point, after_points, decode}
 use Rattle.rules.specs.Good.{GoodPoint, Good}
-use Rattle.rules.proofs.Positions.{forward, point_forward, list_small}
+use Rattle.records.proofs.Positions.{forward, point_forward, records_wide}
 
 module _ (b : List ℕ) where
   pub record PointsLeft (left at : ℕ) : Type 0 where
@@ -19,6 +18,9 @@ module _ (b : List ℕ) where
     pub short : length b ≤ 65536
     -- they are among the file's
     pub among : (point : Point) → In point (points b left at) → In point (decode b).points
+
+  pub left_within : {left at : ℕ} → PointsLeft left at → at < 2 ^ 32
+  left_within {left} {at} p = omega (arith, p.ends, p.short, forward point_forward at (points b left at))
 
   -- the first of those that are left, and those behind it
   pub points_one : (n at : ℕ) → 0 < n → points b n at ≡ point_at b at ∷ points b (n - 1) (after_point at (point_at b at))
@@ -54,44 +56,31 @@ module _ (b : List ℕ) where
     pub point_among : In (point_at b at) (decode b).points
     point_among = p.among _ (subst (In (point_at b at)) (sym (points_one left at h)) (inl refl))
 
-  -- by the header: the bands, where they end, and the points from there on
-  module _ {head : Header} {start : ℕ} (e : (head ≡ header_at b) × (start ≡ bands_at (form_at b))) where
-    abbrev points_from : ℕ
-    points_from = after_bands start (bands b head.bands start)
+  -- all points, after the bands
+  module _ (g : Good b) {head : Header} {start : ℕ} (e : (head ≡ header_at b) × (start ≡ bands_at)) where
+    bands_end : start + head.bands * 90 ≡ after_bands bands_at (decode b).tariff.bands
+    unfolding decode
+    bands_end =
+        ap (λ (h : Header). start + h.bands * 90) e.0
+        ∙ (ap (λ s. s + (header_at b).bands * 90) e.1 ∙ sym (records_wide 90 (band_at b) (header_at b).bands bands_at))
 
-    pub bands_are : bands b head.bands start ≡ (decode b).tariff.bands
-    unfolding decode_in
-    bands_are = rw (e.0, e.1)
+    pub file_points : points b head.points (start + head.bands * 90) ≡ (decode b).points
+    unfolding decode
+    file_points = ap (λ at. points b head.points at) bands_end ∙ ap (λ (h : Header). points b h.points (after_bands bands_at (bands b (header_at b).bands bands_at))) e.0
 
-    bands_end : points_from ≡ after_bands (bands_at (form_at b)) (decode b).tariff.bands
-    bands_end = ap₂ after_bands e.1 bands_are
+    pub points_start : PointsLeft head.points (start + head.bands * 90)
+    points_start =
+        record {
+          good = subst (All (GoodPoint (decode b).tariff.service)) (sym file_points) g.points;
+          ends = omega (arith, g.fits, ap (λ at. after_points at (points b head.points (start + head.bands * 90))) bands_end, ap (after_points (after_bands bands_at (decode b).tariff.bands)) file_points);
+          short = g.short;
+          among = λ point m. subst (In point) file_points m;
+        }
 
-    pub file_points : {from : ℕ} → from ≡ points_from → points b head.points from ≡ (decode b).points
-    unfolding decode_in
-    file_points t = rw (t, e.0, e.1)
-
-  -- and, of an accepted file, what they hold
-  module _ (g : Good b) {head : Header} {start : ℕ} (e : (head ≡ header_at b) × (start ≡ bands_at (form_at b))) where
     pub year_from_lem : 2020 ≤ head.year
-    unfolding decode_in
+    unfolding decode
     year_from_lem = omega (arith, g.header.year_from, ap (λ (h : Header). h.year) e.0)
 
     pub year_to_lem : head.year ≤ 2098
-    unfolding decode_in
+    unfolding decode
     year_to_lem = omega (arith, g.header.year_to, ap (λ (h : Header). h.year) e.0)
-
-    pub bands_small : points_from e < 2 ^ 32
-    bands_small = omega (arith, g.fits, g.short, bands_end e, forward point_forward (after_bands (bands_at (form_at b)) (decode b).tariff.bands) (decode b).points)
-
-    pub bands_few : (start < 2 ^ 32) × (head.bands < 2 ^ 32)
-    bands_few = list_small (band_at b) {next = λ at x. after_band at} (λ at x. omega arith) head.bands start bands_small
-
-    pub points_start : {from : ℕ} → from ≡ points_from e → PointsLeft head.points from
-    points_start t =
-        let all = file_points e t in
-        record {
-          good = subst (All (GoodPoint (decode b).tariff.service)) (sym all) g.points;
-          ends = omega (arith, g.fits, ap₂ after_points (t ∙ bands_end e) all);
-          short = g.short;
-          among = λ point m. subst (In point) all m;
-        }

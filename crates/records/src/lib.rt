@@ -1,15 +1,14 @@
 // A reader for each record of a settlement file: the record at a cursor and the cursor after it, whatever the bytes are. Bits past the end are
 // 0, so nothing is refused here.
-ghost use Rattle.std.specs.Prelude.{◌≡◌, List, ℕ, ◌<◌, ◌^◌};
-ghost use Rattle.rules.specs.Form.{form_at};
+ghost use Rattle.std.specs.Prelude.{◌≡◌, ◌<◌, ◌^◌};
 ghost use Rattle.rules.specs.File.{header_at, band_at, point_head_at, transfer_at, condition_at, meter_head_at, read_at};
 ghost use Rattle.rules.specs.File.{bands_at, after_band, transfers_from, after_transfer, after_condition, reads_from, after_read};
-ghost use Rattle.rules.specs.File.{bands, transfers, conditions, meters, after_bands, after_transfers, after_conditions, after_meters, point_at, after_point};
+ghost use Rattle.rules.specs.File.{meters, after_meters, point_at, after_point};
 ghost use Rattle.records.specs.Lists.{after_lists};
 ghost use Rattle.records.specs.Conditions.{condition_of};
 
 use bits::{Cursor, cut};
-use rules::{Band, Condition, Form, Header, MeterHead, PointHead, Read, Transfer};
+use rules::{Band, Condition, Header, MeterHead, PointHead, Read, Transfer};
 
 #[derive(Drop)]
 pub struct TakenHeader {
@@ -20,12 +19,6 @@ pub struct TakenHeader {
 #[derive(Drop)]
 pub struct TakenBand {
     pub value: Band,
-    pub next: Cursor,
-}
-
-#[derive(Drop)]
-pub struct TakenSize {
-    pub value: u64,
     pub next: Cursor,
 }
 
@@ -75,29 +68,26 @@ pub struct TakenRead {
 
 // THE READERS
 // Loads are most of what reading costs. So a record is taken in groups of fields that stand side by side, with one load for a group and not for
-// each field, and the fields are cut out of their group. `cut` is given a field's width, as the documents have it, and how many bits of the group
+// each field, and the fields are cut out of their group. `cut` is given a field's width, as document 01 has it, and how many bits of the group
 // stand after the field.
 
-// The header, which stands first. Its version says how wide the count of points is, and so where all that follows stands.
+// The header, which stands first.
 pub fn header(file: &[u8]) -> TakenHeader
-    ensures { (result.value ≡ header_at file.now) × (result.next.at ≡ bands_at (form_at file.now)) }
+    ensures { (result.value ≡ header_at file.now) × (result.next.at ≡ bands_at) }
 {
     let c = Cursor { at: 0 };
-    let opening = c.take(file, 38);
-    let version = cut(opening.value, 4, 18);
-    let form = Form::of(version);
-    let points = opening.next.take(file, form.count_bits);
-    let prices = points.next.take(file, 28);
+    let opening = c.take(file, 45);
+    let prices = opening.next.take(file, 28);
     let rates = prices.next.take(file, 34);
     let next = rates.next;
     TakenHeader {
         value: Header {
-            mark: cut(opening.value, 16, 22),
-            version,
-            service: cut(opening.value, 1, 17),
-            year: cut(opening.value, 12, 5),
-            bands: cut(opening.value, 5, 0),
-            points: points.value,
+            mark: cut(opening.value, 16, 29),
+            version: cut(opening.value, 4, 25),
+            service: cut(opening.value, 1, 24),
+            year: cut(opening.value, 12, 12),
+            bands: cut(opening.value, 5, 7),
+            points: cut(opening.value, 7, 0),
             property: cut(prices.value, 14, 14),
             roads: cut(prices.value, 14, 0),
             capacity: cut(rates.value, 17, 17),
@@ -121,19 +111,6 @@ pub fn band(file: &[u8], c: Cursor) -> TakenBand
             allowance: cut(limits.value, 20, 24),
             threshold: cut(limits.value, 24, 0),
         },
-        next,
-    }
-}
-
-// A band's size alone, which stands first.
-pub fn band_size(file: &[u8], c: Cursor) -> TakenSize
-    requires { c.at < 2 ^ 32 }
-    ensures { (result.value ≡ (band_at file.now c.at).size) × (result.next.at ≡ after_band c.at) }
-{
-    let taken = c.take(file, 16);
-    let next = after_band(c);
-    TakenSize {
-        value: taken.value,
         next,
     }
 }
@@ -262,54 +239,6 @@ pub fn read(file: &[u8], c: Cursor) -> TakenRead
     }
 }
 
-// THE LISTS
-// Records of one width are passed over, one or by their count, whatever they hold.
-const BAND_BITS: usize = 90;
-
-const TRANSFER_BITS: usize = 32;
-
-const CONDITION_BITS: usize = 72;
-
-// The cursor after a band.
-pub fn after_band(c: Cursor) -> Cursor
-    requires { c.at < 2 ^ 32 }
-    ensures { result.at ≡ after_band c.at }
-{
-    Cursor {
-        at: c.at + BAND_BITS,
-    }
-}
-
-// The cursor after some bands.
-pub fn after_bands(c: Cursor, count: u64) -> Cursor
-    requires { (c.at < 2 ^ 32) × (count < 2 ^ 32) }
-    ensures { (file : List ℕ) → result.at ≡ after_bands c.at (bands file count c.at) }
-{
-    Cursor {
-        at: c.at + count as usize * BAND_BITS,
-    }
-}
-
-// The cursor after some transfers.
-pub fn after_transfers(c: Cursor, count: u64) -> Cursor
-    requires { (c.at < 2 ^ 32) × (count < 2 ^ 32) }
-    ensures { (file : List ℕ) → result.at ≡ after_transfers c.at (transfers file count c.at) }
-{
-    Cursor {
-        at: c.at + count as usize * TRANSFER_BITS,
-    }
-}
-
-// The cursor after some conditions.
-pub fn after_conditions(c: Cursor, count: u64) -> Cursor
-    requires { (c.at < 2 ^ 32) × (count < 2 ^ 32) }
-    ensures { (file : List ℕ) → result.at ≡ after_conditions c.at (conditions file count c.at) }
-{
-    Cursor {
-        at: c.at + count as usize * CONDITION_BITS,
-    }
-}
-
 // The cursor after some meters and their reads. Of a meter only the count of its reads is taken: its last field, which ends its 72 bits.
 fn after_meters(file: &[u8], c: Cursor, count: u64) -> Cursor
     requires { after_meters c.at (meters file.now count c.at) < 2 ^ 32 }
@@ -327,13 +256,14 @@ fn after_meters(file: &[u8], c: Cursor, count: u64) -> Cursor
     Cursor { at }
 }
 
-// The cursor after a point's conditions and meters, of the cursor after its transfers.
+// The cursor after a point's conditions and meters, of the cursor after its transfers. Records of one width are passed over by their count.
 pub fn after_lists(file: &[u8], c: Cursor, head: PointHead) -> Cursor
     requires { after_lists file.now c.at head < 2 ^ 32 }
     ensures { result.at ≡ after_lists file.now c.at head }
 {
-    let from = after_conditions(c, head.conditions);
-    after_meters(file, from, head.meters)
+    let conditions = head.conditions as usize;
+    let at = c.at + conditions * 72;
+    after_meters(file, Cursor { at }, head.meters)
 }
 
 // The cursor after a point.
@@ -343,6 +273,7 @@ pub fn after_point(file: &[u8], c: Cursor) -> Cursor
 {
     let taken = point(file, c);
     let head = taken.value;
-    let from = after_transfers(taken.next, head.transfers);
-    after_lists(file, from, head)
+    let transfers = head.transfers as usize;
+    let at = taken.next.at + transfers * 32;
+    after_lists(file, Cursor { at }, head)
 }

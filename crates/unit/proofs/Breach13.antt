@@ -8,7 +8,7 @@ use lib.ListN.{length, take}
 use lib.Seq.{length-take-le}
 use borrow.Author.Tests.{lt-ltb, le-ltb}
 use Rattle.rules.specs.File.{decode}
-use Rattle.rules.specs.Refusal.{first_or, file_refusal, refusal_in, refusal}
+use Rattle.rules.specs.Refusal.{first_or, file_refusal, refusal}
 use Rattle.rules.specs.Settlement.{providers_of}
 use Rattle.providers.specs.declared.Listed.{Listed}
 use Rattle.providers.specs.Listed.{InArray, Stands}
@@ -22,7 +22,7 @@ module _ (b : List ℕ) where
 
   -- a breach of 1 to 12 comes first
   first_breach : (n : ℕ) → file_refusal b ≡ n → (n ≡ 0 → ⊥) → n ≡ refusal b
-  unfolding refusal_in first_or
+  unfolding refusal first_or
   first_breach zero e h = absurd (h refl)
   first_breach (suc n) e h = sym (rw (e, first_or))
 
@@ -33,14 +33,14 @@ module _ (b : List ℕ) where
 
   module _ {l : Listed} (e : 0 ≡ file_refusal b) (s : InArray l × Stands l all) where
     pub over_judged : l.over ≡ true → JudgedBy b (record { number = 13; providers = l })
-    unfolding refusal_in first_or
+    unfolding refusal first_or
     over_judged o =
         let many : 64 < length all = rw o at s.1 in
         let is : 13 ≡ refusal b = sym (rw (sym e, first_or, lt-ltb 64 (length all) many)) in
         record { number = is; array = s.0; providers = λ z. absurd (omega (arith, is, z)) }
 
     pub accepted_judged : l.over ≡ false → JudgedBy b (record { number = 0; providers = l })
-    unfolding refusal_in first_or
+    unfolding refusal first_or
     accepted_judged o =
         let list : take l.count l.list ≡ all = rw o at s.1 in
         let few : length all ≤ 64 = omega (arith, ap length list, length-take-le l.count l.list (omega (arith, s.0.few, s.0.long)), s.0.few) in

@@ -1,5 +1,5 @@
 -- From place to place of an accepted file. Assumes nothing.
-use Prim.Native.Nat.{ℕ, zero, suc, ◌+◌, ◌-◌, ◌≤◌, ◌<◌}
+use Prim.Native.Nat.{ℕ, zero, suc, ◌+◌, ◌-◌, ◌*◌, ◌≤◌, ◌<◌}
 use mathlib.Core.Path.{◌≡◌, refl, sym, ap, ap₂, ◌∙◌, subst}
 use mathlib.Core.List.{List, [], ◌∷◌, map}
 use native.Mathlib.Omega.{arith}
@@ -7,12 +7,11 @@ use lib.ListN.{length}
 use Rattle.rules.specs.declared.Header.{Header}
 use Rattle.rules.specs.declared.Statement.{Statement}
 use Rattle.rules.specs.declared.StatementAnswer.{StatementAnswer}
-use Rattle.rules.specs.Form.{form_at}
-use Rattle.rules.specs.File.{Supply, Point, Tariff, header_at, bands_at, bands, after_bands, point_at, points, after_point, decode}
+use Rattle.rules.specs.File.{Supply, Point, Tariff, header_at, bands_at, point_at, points, after_point, decode}
 use Rattle.rules.specs.Settlement.{statement}
 use Rattle.rules.specs.Services.{zero_statement, statement_at}
 use Rattle.rules.specs.Good.{Good}
-use Rattle.rules.proofs.Positions.{length_records}
+use Rattle.records.proofs.Positions.{length_records}
 use Rattle.records.proofs.Walk.{PointsLeft, points_one, points_next, points_start, file_points, point_here, point_ends}
 use Rattle.point.specs.Standing.{Standing}
 
@@ -41,25 +40,25 @@ pub record AtPlace (b : List ℕ) (head : Header) (place i at : ℕ) : Type 0 wh
   pub to : i ≤ place
   pub is : statement_at (decode b).tariff (supplies (points b (head.points - i) at)) (place - i) ≡ statement_at (decode b).tariff (supplies (decode b).points) place
 
-module _ (b : List ℕ) (g : Good b) {head : Header} {first : ℕ} (e : (head ≡ header_at b) × (first ≡ bands_at (form_at b))) (place : ℕ) where
+module _ (b : List ℕ) (g : Good b) {head : Header} {first : ℕ} (e : (head ≡ header_at b) × (first ≡ bands_at)) (place : ℕ) where
   abbrev answer : StatementAnswer
   answer = statement_at (decode b).tariff (supplies (decode b).points) place
 
   pub past_last : {s : Statement} → s ≡ zero_statement → head.points ≤ place → ◌≡◌ {A = StatementAnswer} (record { number = 15; statement = s }) answer
   past_last z h =
       ap (λ (s : Statement). record { number = 15; statement = s }) z
-      ∙ sym (no_point (decode b).tariff (decode b).points place (omega (arith, ap length (file_points b e refl), length_records (point_at b) after_point head.points (after_bands first (bands b head.bands first)))))
+      ∙ sym (no_point (decode b).tariff (decode b).points place (omega (arith, ap length (file_points b g e), length_records (point_at b) after_point head.points (first + head.bands * 90))))
 
-  pub place_start : {from : ℕ} → from ≡ after_bands first (bands b head.bands first) → AtPlace b head place 0 from
-  place_start {from} t =
+  pub place_start : AtPlace b head place 0 (first + head.bands * 90)
+  place_start =
       let all : head.points - 0 ≡ head.points = omega arith in
       let here : place - 0 ≡ place = omega arith in
       record {
-        left = subst (λ n. PointsLeft b n from) (sym all) (points_start b g e t);
+        left = subst (λ n. PointsLeft b n (first + head.bands * 90)) (sym all) (points_start b g e);
         to = omega arith;
         is =
-            ap₂ (λ n k. statement_at (decode b).tariff (supplies (points b n from)) k) all here
-            ∙ ap (λ ps. statement_at (decode b).tariff (supplies ps) place) (file_points b e t);
+            ap₂ (λ n k. statement_at (decode b).tariff (supplies (points b n (first + head.bands * 90))) k) all here
+            ∙ ap (λ ps. statement_at (decode b).tariff (supplies ps) place) (file_points b g e);
       }
 
   module _ {i at : ℕ} (p : AtPlace b head place i at) (h : place < head.points) where

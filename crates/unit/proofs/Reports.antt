@@ -6,7 +6,7 @@ use lib.ListN.{length, take, drop}
 use lib.Seq.{take_at}
 use Rattle.rules.specs.declared.Header.{Header}
 use Rattle.rules.specs.declared.Row.{Row}
-use Rattle.rules.specs.File.{header_at, decode_in, decode}
+use Rattle.rules.specs.File.{header_at, decode}
 use Rattle.rules.specs.Refusal.{refusal}
 use Rattle.rules.specs.Settlement.{rows, row_and, clear_row, providers_of}
 use Rattle.rules.specs.Report.{report_of, report}
@@ -39,8 +39,8 @@ module _ (b : List ℕ) where
 
     pub rows_all_fit : AllFit (take count t)
     unfolding rows
-    rows_all_fit = subst AllFit (sym first_rows) (all_map Fits (λ p. row_and (decode b).tariff (clear_row p) (decode b).points) (rows_fit b (accepted_good _ b e)) (providers_of (decode b).tariff (decode b).points))
+    rows_all_fit = subst AllFit (sym first_rows) (all_map Fits (λ p. row_and (decode b).tariff (clear_row p) (decode b).points) (rows_fit b (accepted_good b e)) (providers_of (decode b).tariff (decode b).points))
 
     pub report_is : {head : Header} → head ≡ header_at b → report_of head.service head.year (take count t) ≡ report (decode b)
-    unfolding report decode_in
+    unfolding report decode
     report_is h = ap₂ (λ (head : Header) rows. report_of head.service head.year rows) h first_rows

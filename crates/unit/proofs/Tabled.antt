@@ -46,7 +46,7 @@ module _ (b : List ℕ) (table : List Row) where
     -- there is a row for each provider
     sized : length answer ≡ count
     unfolding rows
-    sized = length-map (providers_of (decode b).tariff (decode b).points) (λ p. row_and (decode b).tariff (clear_row p) (decode b).points) ∙ many b (accepted_good _ b e) of
+    sized = length-map (providers_of (decode b).tariff (decode b).points) (λ p. row_and (decode b).tariff (clear_row p) (decode b).points) ∙ many b (accepted_good b e) of
 
     -- TOO FEW ENTRIES
     pub short : entries < count → (◌≡◌ {A = RowsAnswer} (record { number = 14; count = 0 }) (rows_answer b entries)) × (table ≡ rows_after b table)

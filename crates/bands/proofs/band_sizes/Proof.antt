@@ -1,33 +1,36 @@
 -- `bands::band_sizes` meets its contract: the sizes below k are those of the first k bands. Assumes nothing.
-use Prim.Native.Nat.{◌-◌}
-use mathlib.Core.Path.{◌≡◌, refl, sym, ap, ◌∙◌}
+use Prim.Native.Nat.{◌+◌, ◌-◌, ◌*◌}
+use mathlib.Core.Path.{◌≡◌, refl, ap, ◌∙◌}
 use native.Mathlib.Omega.{arith}
 use lib.ListN.{length, length-set}
-use Rattle.rules.specs.File.{records, after, band_at, bands as bands_from, after_band, after_bands}
-use Rattle.records.proofs.Skip.{bands_more, bands_within}
+use Rattle.rules.specs.Field.{field}
+use Rattle.rules.specs.File.{band_at}
+use Rattle.records.proofs.Positions.{records_wide}
 use Rattle.bands.specs.Bands.{SizesOf}
 use Rattle.bands.proofs.Serving.{sizes_none, sizes_more, sizes_to}
 use Rattle.bands.proofs.band_sizes.Statement.{statement}
 use Rattle.bands.proofs.band_sizes.Tie as tie
 
 abbrev invariant_loop : tie.invariant-loop
-invariant_loop file count bands sizes₀ next₀ k₀ sizes next k = SizesOf file k next₀.at sizes × (length sizes ≡ 24) × (next.at ≡ after_bands next₀.at (bands_from file k next₀.at))
+invariant_loop file count bands sizes₀ next₀ k₀ sizes next k = SizesOf file k next₀.at sizes × (length sizes ≡ 24) × (next.at ≡ next₀.at + k * 90)
 
 abbrev decreases_loop : tie.decreases_loop
 decreases_loop file count bands sizes₀ next₀ k₀ sizes next k = bands - k
 
 loop_holds : tie.Need-loop-init invariant_loop decreases_loop
-unfolding records after
-loop_holds c = (sizes_none _, refl, refl)
+loop_holds c = (sizes_none _, refl, omega arith)
 
-band_size_requires : tie.Need-band-size-requires invariant_loop decreases_loop
-band_size_requires c κs = omega (arith, c.before.before.before.requires.1, c.before.loop.invariant.2, bands_within c.before.before.before.args.file.now {k = c.before.loop.k} {n = c.before.before.before.args.count} c.before.before.before.args.c.at (omega (arith, c.loop-test.true)))
+take_requires : tie.Need-take-requires invariant_loop decreases_loop
+take_requires c κs = let s = c.before.before.before.args in (omega arith, omega (arith, c.before.before.before.requires.1, c.before.loop.invariant.2, c.loop-test.true, records_wide 90 (band_at s.file.now) s.count s.c.at))
 
 mul_sizes : tie.Need-overflow-mul-sizes invariant_loop decreases_loop
 mul_sizes c = omega (arith, c.before.before.before.before.requires.0, c.before.loop-test.true)
 
 array_write_sizes : tie.Need-array-write-sizes invariant_loop decreases_loop
 array_write_sizes c = omega (arith, c.before.before.before.before.requires.0, c.before.loop-test.true)
+
+add_t10 : tie.Need-overflow-add-t10 invariant_loop decreases_loop
+add_t10 c = let s = c.before.before.before.before.before.args in omega (arith, c.before.before.before.before.before.requires.1, c.before.before.before.loop.invariant.2, c.before.before.loop-test.true, records_wide 90 (band_at s.file.now) s.count s.c.at)
 
 add_k : tie.Need-overflow-add-k invariant_loop decreases_loop
 add_k c = omega (arith, c.before.before.before.before.before.requires.0, c.before.before.loop-test.true)
@@ -36,7 +39,7 @@ loop_less : tie.Need-loop-smaller invariant_loop decreases_loop
 loop_less c = omega (arith, c.before.before.loop-test.true)
 
 loop_again : tie.Need-loop-preserved invariant_loop decreases_loop
-loop_again c = let s = c.before.before.before.before.before.args in let l = c.before.before.before.loop in let u = l.invariant in (sizes_more _ u.0 (omega (arith, u.1, c.before.before.before.before.before.requires.0, c.before.before.loop-test.true)) (c.before.band-size.ensures.0 ∙ ap (λ p. (band_at s.file.now p).size) u.2), length-set l.sizes l.k _ ∙ u.1, c.before.band-size.ensures.1 ∙ (ap after_band u.2 ∙ sym (bands_more s.file.now l.k s.c.at)))
+loop_again c = let s = c.before.before.before.before.before.args in let l = c.before.before.before.loop in let u = l.invariant in (sizes_more _ u.0 (omega (arith, u.1, c.before.before.before.before.before.requires.0, c.before.before.loop-test.true)) (c.before.take.ensures.is ∙ ap (λ p. field s.file.now p 16) u.2), length-set l.sizes l.k _ ∙ u.1, omega (arith, u.2))
 
 returns : tie.Need-returns invariant_loop decreases_loop
 returns c = sizes_to _ c.before.loop.invariant.0 (omega (arith, c.loop-test.false))
@@ -48,9 +51,10 @@ band_sizes_spec =
     invariant_loop
     decreases_loop
     loop_holds
-    band_size_requires
+    take_requires
     mul_sizes
     array_write_sizes
+    add_t10
     add_k
     loop_less
     loop_again

@@ -5,10 +5,10 @@ use Rattle.cases_main.proofs.print_statements.Statement.{statement}
 use Rattle.cases_main.proofs.print_statements.Tie as tie
 
 abbrev invariant_loop : tie.invariant-loop
-invariant_loop file place₀ place = place ≤ 257
+invariant_loop file place₀ place = place ≤ 65
 
 abbrev decreases_loop : tie.decreases_loop
-decreases_loop file place₀ place = 257 - place
+decreases_loop file place₀ place = 65 - place
 
 loop_holds : tie.Need-loop-init invariant_loop decreases_loop
 loop_holds c = search rules

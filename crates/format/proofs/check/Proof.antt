@@ -75,14 +75,12 @@ check_spec =
     (λ c. omega arith)
     -- header-requires
     (λ c κs. omega arith)
-    -- of-requires
-    (λ c κs. omega arith)
     -- header-number-requires
     (λ c κs. omega arith)
     -- returns-2
-    (λ c. header_stops _ c.before.before.before.before.header.ensures c.before.before.of.ensures c.before.before.before.before.before.if1.false c.before.header-number.ensures c.if2.true)
+    (λ c. header_stops _ c.before.before.before.before.if1.false c.before.before.before.header.ensures c.before.header-number.ensures c.if2.true)
     -- file-holds
-    (λ c. opens _ c.before.before.before.before.before.header.ensures c.before.before.before.of.ensures c.before.before.before.before.before.before.if1.false c.before.before.header-number.ensures c.before.if2.false)
+    (λ c. opens _ c.before.before.before.before.before.if1.false c.before.before.before.before.header.ensures c.before.before.header-number.ensures c.before.if2.false)
     -- bands-holds
     (λ c. c.file.invariant)
     -- band-requires
@@ -164,7 +162,7 @@ check_spec =
     -- meters-again
     (λ c. ends c.before.before.reads.invariant c.if13.false)
     -- add-p
-    (λ c. omega (arith, c.before.before.before.before.before.before.before.before.before.before.before.before.before.before.before.before.before.before.before.before.before.before.before.before.before.before.header.type-inv, c.before.before.before.before.before.before.before.before.before.before.before.before.before.before.if5.true))
+    (λ c. omega (arith, c.before.before.before.before.before.before.before.before.before.before.before.before.before.before.before.before.before.before.before.before.before.before.before.before.before.header.type-inv, c.before.before.before.before.before.before.before.before.before.before.before.before.before.before.if5.true))
     -- points-less
     (λ c. omega arith)
     -- points-again

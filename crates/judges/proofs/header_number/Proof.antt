@@ -12,7 +12,7 @@ header_number_spec =
     tie.close
     (tie.spec
     (λ c. simp (lt-ltb _ _ c.if1.true))
-    (λ c. let s = c.before.before.before.before in simp (le-ltb _ _ s.if1.false, c.if2.true))
+    (λ c. simp (le-ltb _ _ c.before.before.before.if1.false, c.if2.true))
     (λ c κs. search rules)
-    (λ c. let s = c.before.before.before.before.before.before in simp (le-ltb _ _ s.if1.false, c.before.before.if2.false, sym c.before.header-outside.ensures ∙ c.if3.true))
-    (λ c. let s = c.before.before.before.before.before.before in simp (le-ltb _ _ s.if1.false, c.before.before.if2.false, sym c.before.header-outside.ensures ∙ c.if3.false)))
+    (λ c. simp (le-ltb _ _ c.before.before.before.before.before.if1.false, c.before.before.if2.false, sym c.before.header-outside.ensures ∙ c.if3.true))
+    (λ c. simp (le-ltb _ _ c.before.before.before.before.before.if1.false, c.before.before.if2.false, sym c.before.header-outside.ensures ∙ c.if3.false)))

@@ -1,7 +1,7 @@
 -- `meters::add_meter` meets its contract: its litres, and then its figures. Assumes nothing.
 use native.Mathlib.Omega.{arith}
 use Rattle.rules.specs.File.{bands as bands_of, meter_at}
-use Rattle.rules.proofs.Positions.{meter_forward}
+use Rattle.records.proofs.Positions.{meter_forward}
 use Rattle.meters.proofs.Adding.{weights_fit, meter_asks, during_asks, meter_added}
 use borrow.Author.Rules.{rules}
 use Rattle.meters.proofs.add_meter.Statement.{statement}

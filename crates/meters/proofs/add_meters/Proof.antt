@@ -4,7 +4,7 @@ use borrow.Author.Rules.{rules}
 use mathlib.Core.Path.{refl}
 use native.Mathlib.Omega.{arith}
 use Rattle.rules.specs.File.{bands as bands_of, meter_at, after_meter, meters as meters_at, after_meters}
-use Rattle.rules.proofs.Positions.{length_records, meter_forward}
+use Rattle.records.proofs.Positions.{length_records, meter_forward}
 use Rattle.records.proofs.Ahead.{Ahead, ahead_past, ahead_one, ahead_turn, ahead_done}
 use Rattle.meters.proofs.Adding.{MetersLeft, meters_begin, meters_ask, meters_turn, meters_end}
 use Rattle.meters.proofs.add_meters.Statement.{statement}

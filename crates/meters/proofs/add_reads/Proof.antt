@@ -4,7 +4,7 @@ use borrow.Author.Rules.{rules}
 use mathlib.Core.List.{◌∷◌}
 use native.Mathlib.Omega.{arith}
 use Rattle.rules.specs.File.{read_at, after_read, reads as reads_of, after_reads}
-use Rattle.rules.proofs.Positions.{forward}
+use Rattle.records.proofs.Positions.{forward}
 use Rattle.records.proofs.Ahead.{Ahead, read_past, ahead_within, ahead_one, ahead_turn}
 use Rattle.spans.specs.Spans.{Cut}
 use Rattle.meters.proofs.Advances.{ReadsLeft, reads_ask, reads_turn, no_reads, reads_begin, reads_done}

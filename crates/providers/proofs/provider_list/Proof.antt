@@ -1,31 +1,36 @@
 -- `providers::provider_list` meets its contract: the list so far, with the providers of the points that are left, has those of all. Assumes nothing.
 use mathlib.Core.Path.{refl}
 use native.Mathlib.Omega.{arith}
-use Rattle.rules.proofs.Accepted.{accepted}
-use Rattle.records.proofs.Walk.{bands_few, point_here, point_within}
-use Rattle.providers.proofs.Points.{Listing, listing_start, listing_next, listing_over, listing_done}
 use borrow.Author.Rules.{rules}
+use Rattle.rules.proofs.Accepted.{accepted}
+use Rattle.records.proofs.Walk.{left_within, point_here, point_within, points_start}
+use Rattle.providers.proofs.Points.{Listing, listing_start, listing_next, listing_over, listing_done}
 use Rattle.providers.proofs.provider_list.Statement.{statement}
 use Rattle.providers.proofs.provider_list.Tie as tie
 
 abbrev invariant_loop : tie.invariant-loop
-invariant_loop file head at₀ list₀ found₀ count₀ points-left₀ at list found count points-left = Listing file head.year points-left at list count
+invariant_loop file head bands at₀ list₀ found₀ count₀ points-left₀ at list found count points-left = Listing file head.year points-left at list count
 
 abbrev decreases_loop : tie.decreases_loop
-decreases_loop file head at₀ list₀ found₀ count₀ points-left₀ at list found count points-left = points-left
+decreases_loop file head bands at₀ list₀ found₀ count₀ points-left₀ at list found count points-left = points-left
 
 header_requires : tie.Need-header-requires invariant_loop decreases_loop
 header_requires c κs = search rules
 
-after_bands_requires : tie.Need-after-bands-requires invariant_loop decreases_loop
-after_bands_requires c κs =
+mul_at : tie.Need-overflow-mul-at invariant_loop decreases_loop
+mul_at c =
     let s = c.before.before.before in
-    bands_few s.args.file.now (accepted _ _ s.requires) c.before.header.ensures
+    omega (arith, left_within _ (points_start s.args.file.now (accepted _ s.requires) c.before.header.ensures))
+
+add_at : tie.Need-overflow-add-at invariant_loop decreases_loop
+add_at c =
+    let s = c.before.before.before.before in
+    omega (arith, left_within _ (points_start s.args.file.now (accepted _ s.requires) c.before.before.header.ensures))
 
 loop_holds : tie.Need-loop-init invariant_loop decreases_loop
 loop_holds c =
     let s = c.before.before.before.before in
-    listing_start s.args.file.now (accepted _ _ s.requires) c.before.before.header.ensures (c.after-bands.ensures s.args.file.now) refl
+    listing_start s.args.file.now (accepted _ s.requires) c.before.before.header.ensures refl
 
 slice_aggregate_put_point : tie.Need-slice-aggregate-put-point invariant_loop decreases_loop
 slice_aggregate_put_point c = search rules
@@ -55,7 +60,8 @@ provider_list_spec =
     invariant_loop
     decreases_loop
     header_requires
-    after_bands_requires
+    mul_at
+    add_at
     loop_holds
     slice_aggregate_put_point
     put_point_requires

@@ -18,7 +18,7 @@ slice_aggregate_rows_into c = search rules
 rows_into_requires : tie.Need-rows-into-requires
 rows_into_requires c κs =
     let s = c.before.before.before.before in
-    (accepted_file _ s.args.file.now s.requires.0, (s.requires.1, s.requires.1.few))
+    (accepted_file s.args.file.now s.requires.0, (s.requires.1, s.requires.1.few))
 
 header_requires : tie.Need-header-requires
 header_requires c κs = search rules

@@ -30,7 +30,7 @@ rows_into_requires c κs =
     let s = c.before.before.before.before.before.before.before.before in
     let judged = c.before.before.before.before.before.before.judge.ensures in
     let accepted = sym judged.number ∙ c.before.before.before.before.if1.false in
-    (accepted_file _ s.args.file.now accepted, (judged_providers s.args.file.now judged accepted, omega (arith, c.before.if2.false)))
+    (accepted_file s.args.file.now accepted, (judged_providers s.args.file.now judged accepted, omega (arith, c.before.if2.false)))
 
 same_length : tie.Need-same-length
 same_length c = search rules

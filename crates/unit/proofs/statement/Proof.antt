@@ -17,7 +17,7 @@ returns : tie.Need-returns
 returns c = (ap₂ (λ (n : ℕ) (s : Statement). record { number = n; statement = s }) refl c.zero-statement.ensures) ∙ sym (refused c.before.before.before.before.args.file.now c.before.before.before.before.args.place _ (sym c.before.before.judge.ensures.number) c.before.if1.true)
 
 statement_at_requires : tie.Need-statement-at-requires
-statement_at_requires c κs = accepted_file _ c.before.before.before.args.file.now (sym c.before.judge.ensures.number ∙ c.if1.false)
+statement_at_requires c κs = accepted_file c.before.before.before.args.file.now (sym c.before.judge.ensures.number ∙ c.if1.false)
 
 returns_2 : tie.Need-returns-2
 returns_2 c = c.statement-at.ensures ∙ sym (answered c.before.before.before.before.args.file.now (sym c.before.before.judge.ensures.number ∙ c.before.if1.false) c.before.before.before.before.args.place)

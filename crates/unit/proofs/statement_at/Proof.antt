@@ -1,18 +1,18 @@
 -- `unit::statement_at` meets its contract: the answer is among the points that are left. Assumes nothing.
 use Prim.Native.Nat.{◌-◌}
 use native.Mathlib.Omega.{arith}
-use Rattle.rules.proofs.Accepted.{accepted}
-use Rattle.records.proofs.Walk.{bands_few, point_within}
-use Rattle.unit.proofs.Places.{AtPlace, past_last, place_start, place_next, place_point, place_found}
 use borrow.Author.Rules.{rules}
+use Rattle.rules.proofs.Accepted.{accepted}
+use Rattle.records.proofs.Walk.{left_within, point_within, points_start}
+use Rattle.unit.proofs.Places.{AtPlace, past_last, place_start, place_next, place_point, place_found}
 use Rattle.unit.proofs.statement_at.Statement.{statement}
 use Rattle.unit.proofs.statement_at.Tie as tie
 
 abbrev invariant_loop : tie.invariant-loop
-invariant_loop file place head first at₀ i₀ at i = AtPlace file head place i at
+invariant_loop file place head first bands at₀ i₀ at i = AtPlace file head place i at
 
 abbrev decreases_loop : tie.decreases_loop
-decreases_loop file place head first at₀ i₀ at i = place - i
+decreases_loop file place head first bands at₀ i₀ at i = place - i
 
 header_requires : tie.Need-header-requires invariant_loop decreases_loop
 header_requires c κs = search rules
@@ -21,19 +21,16 @@ zero_statement_requires : tie.Need-zero-statement-requires invariant_loop decrea
 zero_statement_requires c κs = search rules
 
 returns : tie.Need-returns invariant_loop decreases_loop
-returns c =
-    let s = c.before.before.before.before.before.before.before in
-    past_last s.args.file.now (accepted _ _ s.requires) c.before.before.before.before.before.header.ensures s.args.place c.zero-statement.ensures c.before.if1.true
+returns c = past_last c.before.before.before.before.before.before.before.args.file.now (accepted _ c.before.before.before.before.before.before.before.requires) c.before.before.before.before.before.header.ensures c.before.before.before.before.before.before.before.args.place c.zero-statement.ensures c.before.if1.true
 
-after_bands_requires : tie.Need-after-bands-requires invariant_loop decreases_loop
-after_bands_requires c κs =
-    let s = c.before.before.before.before.before.before in
-    bands_few s.args.file.now (accepted _ _ s.requires) c.before.before.before.before.header.ensures
+mul_at : tie.Need-overflow-mul-at invariant_loop decreases_loop
+mul_at c = omega (arith, left_within _ (points_start c.before.before.before.before.before.before.args.file.now (accepted _ c.before.before.before.before.before.before.requires) c.before.before.before.before.header.ensures))
+
+add_at : tie.Need-overflow-add-at invariant_loop decreases_loop
+add_at c = omega (arith, left_within _ (points_start c.before.before.before.before.before.before.before.args.file.now (accepted _ c.before.before.before.before.before.before.before.requires) c.before.before.before.before.before.header.ensures))
 
 loop_holds : tie.Need-loop-init invariant_loop decreases_loop
-loop_holds c =
-    let s = c.before.before.before.before.before.before.before in
-    place_start s.args.file.now (accepted _ _ s.requires) c.before.before.before.before.before.header.ensures s.args.place (c.after-bands.ensures _)
+loop_holds c = place_start c.before.before.before.before.before.before.before.args.file.now (accepted _ c.before.before.before.before.before.before.before.requires) c.before.before.before.before.before.header.ensures c.before.before.before.before.before.before.before.args.place
 
 after_point_requires : tie.Need-after-point-requires invariant_loop decreases_loop
 after_point_requires c κs = point_within _ c.before.loop.invariant.left (omega (arith, c.before.loop.invariant.to, c.before.before.before.if1.false))
@@ -45,19 +42,13 @@ loop_less : tie.Need-loop-smaller invariant_loop decreases_loop
 loop_less c = search rules
 
 loop_again : tie.Need-loop-preserved invariant_loop decreases_loop
-loop_again c =
-    let s = c.before.before.before.before.before.before.before.before.before.before in
-    place_next s.args.file.now (accepted _ _ s.requires) c.before.before.before.before.before.before.before.before.header.ensures s.args.place c.before.before.loop.invariant (omega (arith, c.before.before.before.before.if1.false)) c.before.loop-test.true c.after-point.ensures
+loop_again c = place_next c.before.before.before.before.before.before.before.before.before.before.args.file.now (accepted _ c.before.before.before.before.before.before.before.before.before.before.requires) c.before.before.before.before.before.before.before.before.header.ensures c.before.before.before.before.before.before.before.before.before.before.args.place c.before.before.loop.invariant (omega (arith, c.before.before.before.before.if1.false)) c.before.loop-test.true c.after-point.ensures
 
 point_statement_requires : tie.Need-point-statement-requires invariant_loop decreases_loop
-point_statement_requires c κs =
-    let s = c.before.before.before.before.before.before.before.before.before in
-    place_point s.args.file.now (accepted _ _ s.requires) c.before.before.before.before.before.before.before.header.ensures s.args.place c.before.loop.invariant (omega (arith, c.before.before.before.if1.false))
+point_statement_requires c κs = place_point c.before.before.before.before.before.before.before.before.before.args.file.now (accepted _ c.before.before.before.before.before.before.before.before.before.requires) c.before.before.before.before.before.before.before.header.ensures c.before.before.before.before.before.before.before.before.before.args.place c.before.loop.invariant (omega (arith, c.before.before.before.if1.false))
 
 returns_2 : tie.Need-returns-2 invariant_loop decreases_loop
-returns_2 c =
-    let s = c.before.before.before.before.before.before.before.before.before.before in
-    place_found s.args.file.now (accepted _ _ s.requires) c.before.before.before.before.before.before.before.before.header.ensures s.args.place c.before.before.loop.invariant (omega (arith, c.before.before.before.before.if1.false)) (omega (arith, c.before.loop-test.false)) c.point-statement.ensures
+returns_2 c = place_found c.before.before.before.before.before.before.before.before.before.before.args.file.now (accepted _ c.before.before.before.before.before.before.before.before.before.before.requires) c.before.before.before.before.before.before.before.before.header.ensures c.before.before.before.before.before.before.before.before.before.before.args.place c.before.before.loop.invariant (omega (arith, c.before.before.before.before.if1.false)) (omega (arith, c.before.loop-test.false)) c.point-statement.ensures
 
 pub statement_at_spec : {M : Type 1} → statement M
 statement_at_spec =
@@ -68,7 +59,8 @@ statement_at_spec =
     header_requires
     zero_statement_requires
     returns
-    after_bands_requires
+    mul_at
+    add_at
     loop_holds
     after_point_requires
     add_i
