@@ -1,3 +1,4 @@
+#![tactic(auto)]
 // The bands of a tariff: their sizes, and the band that serves a size.
 ghost use Rattle.std.specs.Prelude.{◌≡◌, ◌≤◌, ◌<◌, ◌^◌, map};
 ghost use Rattle.rules.specs.Lists.{Ascending};

@@ -1,3 +1,4 @@
+#![tactic(auto)]
 // A batch on standard input: cases one after the other, each of three numbers of 4 bytes, most significant first (the length of the file, the
 // entries of the table lent, the bytes of report space lent), and then the file's bytes.
 ghost use Rattle.std.specs.Prelude.{◌≡◌, ◌≤◌, ◌<◌, min, length};

@@ -1,3 +1,4 @@
+#![tactic(auto)]
 // A bit cursor by value: fields are unsigned, bit-packed, most significant bit first.
 ghost use Rattle.std.specs.Prelude.{◌≡◌, ◌+◌, ◌*◌, ◌≤◌, ◌<◌, ◌^◌, length, get_or};
 ghost use Rattle.rules.specs.Field.{field};

@@ -1,3 +1,4 @@
+#![tactic(auto)]
 // Prints the rows, the statements and the report of each file of a batch, as `reference cases` does. A line `rows` has the number, the count and
 // how many of the entries lent are past the answer and as they were found; then a line for each row, and one for each statement up to the first
 // that is refused. A line `report` has the answer and how many of the bytes lent are past it and as they were found; then the report, where one

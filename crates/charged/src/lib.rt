@@ -1,3 +1,4 @@
+#![tactic(auto)]
 // The charged days of a supply point: those of the settlement year from its connection day, before its disconnection day. They are numbered from
 // 0 on; the number of a day is its entry.
 ghost use Rattle.std.specs.Prelude.{◌≡◌, ◌-◌, ◌≤◌, min};

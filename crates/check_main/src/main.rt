@@ -1,3 +1,4 @@
+#![tactic(auto)]
 // Prints the number of each file of a batch, a line each.
 
 // Reads a case and prints its file's number; false where there is none.

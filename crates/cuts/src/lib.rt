@@ -1,3 +1,4 @@
+#![tactic(auto)]
 // The charged days of a supply point, cut at its transfers and conditions: days with one provider and one condition are a span. Each record is read
 // once, in the order of the days.
 ghost use Rattle.std.specs.Prelude.{◌≡◌, ℕ, ◌-◌, ◌≤◌, ◌<◌, ◌^◌, length};

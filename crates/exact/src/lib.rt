@@ -1,3 +1,4 @@
+#![tactic(auto)]
 // Arithmetic on whole numbers that is exact beyond 64 bits.
 ghost use Rattle.std.specs.Prelude.{◌≡◌, ◌+◌, ◌-◌, ◌*◌, ◌/◌, ◌^◌, ◌<◌, min, max};
 ghost use Rattle.exact.specs.Parts.{value, Of};

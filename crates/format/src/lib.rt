@@ -1,3 +1,4 @@
+#![tactic(auto)]
 // The check of a settlement file: breaches 1 to 12.
 ghost use Rattle.std.specs.Prelude.{◌≡◌, ◌*◌, ◌≤◌, length};
 ghost use Rattle.rules.specs.Refusal.{padding_number, file_refusal};

@@ -1,3 +1,4 @@
+#![tactic(auto)]
 // The meters of a supply point, added to its spans: the litres of their advances, and their bands' figures on their meter days. Each record of the
 // point's meters is read once.
 ghost use Rattle.std.specs.Prelude.{◌≡◌, ◌+◌, ◌-◌, ◌*◌, ◌≤◌, ◌<◌, ◌^◌, min, []};

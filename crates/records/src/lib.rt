@@ -1,3 +1,4 @@
+#![tactic(auto)]
 // A reader for each record of a settlement file: the record at a cursor and the cursor after it, whatever the bytes are. Bits past the end are
 // 0, so nothing is refused here.
 ghost use Rattle.std.specs.Prelude.{◌≡◌, ◌<◌, ◌^◌};

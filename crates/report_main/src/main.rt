@@ -1,3 +1,4 @@
+#![tactic(auto)]
 // Reads a settlement file from standard input and prints its report; of a refused file the line that says its number. It lends 65,536 bytes of
 // report space.
 ghost use Rattle.std.specs.Prelude.{◌≤◌, length};

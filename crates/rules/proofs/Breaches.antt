@@ -140,6 +140,7 @@ breaks_not : {n : ℕ} {rules : List Rule} → Breaks rules n → ¬ All (λ rul
 breaks_not {n} {rules} b k = go rules b.broken k
   where
     go : (rules : List Rule) → Some (λ rule. (rule.number ≡ n) × ¬ rule.Kept) rules → All (λ rule. rule.Kept) rules → ⊥
+    go [] x k = elim x [ ]
     go (r ∷ rs) (inl x) k = x.1 k.0
     go (r ∷ rs) (inr x) k = go rs x k.1
 
@@ -148,6 +149,7 @@ breaks_once : {n m : ℕ} {rules : List Rule} → Breaks rules n → Breaks rule
 breaks_once {n} {m} {rules} a b = go rules a.least b.broken
   where
     go : (rules : List Rule) → All (λ rule. ¬ rule.Kept → n ≤ rule.number) rules → Some (λ rule. (rule.number ≡ m) × ¬ rule.Kept) rules → n ≤ m
+    go [] l x = elim x [ ]
     go (r ∷ rs) l (inl x) = let h = l.0 x.1 in omega (arith, x.0)
     go (r ∷ rs) l (inr x) = go rs l.1 x
 

@@ -1,3 +1,4 @@
+#![tactic(auto)]
 // The charged days of a supply point by spans: days that stand side by side and have one provider and one condition. A span's numbers stand in a
 // lent array, eight for each: the entry before which it ends, its provider, its condition by groups, and four sums over its days. What some days
 // have is added to the spans that they meet, so that nothing is kept or done for each day.

@@ -1,3 +1,4 @@
+#![tactic(auto)]
 // Text and numbers. A writer (`put_..`) puts its text into a lent space from a position on, and hands back the position after it. It asks that the
 // space holds the text. A length (`.._length`) has a limit, by which sums of lengths fit a usize.
 ghost use Rattle.std.specs.Prelude.{◌++◌, ◌+◌, ◌≤◌, ◌<◌, length};
