@@ -11,6 +11,7 @@ use lib.ListN.{length}
 use lib.Dec.{ltb}
 use borrow.Author.Tests.{lt-ltb, le-ltb}
 use Rattle.rules.proofs.Fields.{field_lt}
+use Rattle.rules.specs.declared.Form.{Form}
 use Rattle.rules.specs.declared.Band.{Band}
 use Rattle.rules.specs.declared.PointHead.{PointHead}
 use Rattle.rules.specs.declared.Transfer.{Transfer}
@@ -18,13 +19,13 @@ use Rattle.rules.specs.declared.Condition.{Condition}
 use Rattle.rules.specs.declared.MeterHead.{MeterHead}
 use Rattle.rules.specs.declared.Read.{Read}
 use Rattle.rules.specs.Lists.{All, Ascending}
-use Rattle.rules.specs.File.{Meter, Point, meter_head, point_head, file_header, bands_at, after_band, after_bands, transfers_from, after_transfer, after_transfers, after_condition, after_conditions, reads_from, after_read, after_reads, after_meter, after_meters, after_point, after_points, after, decode}
+use Rattle.rules.specs.File.{Meter, Point, meter_head, point_head, file_header, bands_at, after_band, after_bands, transfers_from, after_transfer, after_transfers, after_condition, after_conditions, reads_from, after_read, after_reads, after_meter, after_meters, after_point, after_points, after, decode_in}
 use Rattle.rules.specs.Litres.{dial_values}
-use Rattle.rules.specs.Refusal.{when, file_refusal}
-use Rattle.rules.specs.Lawful.{Record, band, transfer, condition, read, in_turn, meter_records, point_records, file_records, width, placed, Above, Turned, rules_for, Keeps, bits_of, Sound}
-use Rattle.rules.specs.Good.{GoodBand, GoodTransfer, FirstBy, GoodCondition, Undrained, GoodRead, GoodAdvances, GoodMeterHead, GoodMeter, GoodPointHead, GoodPoint, GoodHeader, Good}
+use Rattle.rules.specs.Refusal.{when, file_refusal_in}
+use Rattle.rules.specs.Lawful.{Record, band, transfer, condition, read, in_turn, meter_records, point_records, width, placed, Above, Turned, rules_for, Keeps, bits_of, SoundIn}
+use Rattle.rules.specs.Good.{GoodBand, GoodTransfer, FirstBy, GoodCondition, Undrained, GoodRead, GoodAdvances, GoodMeterHead, GoodMeter, GoodPointHead, GoodPoint, GoodHeader, GoodIn}
 use Rattle.rules.proofs.Lists.{all_all, all_apart}
-use Rattle.rules.proofs.Placed.{ends, placed_append, bands_end, transfers_end, reads_end, dated, inside, dated_end, inside_end}
+use Rattle.rules.proofs.Placed.{ends, placed_append, bands_end, transfers_end, reads_end, dated, inside, dated_end, inside_end, placed_file}
 use Rattle.rules.proofs.Judged.{least_after}
 use Rattle.rules.proofs.Breaches.{accepted_sound}
 
@@ -186,21 +187,22 @@ module _ (bits : ℕ) where
       } in
       record { each = (good, q.each); ascend = ascends (λ p. p.number) (least_after (λ p. p.number) before) p ps (least_above (λ p. p.number) before (point_head p) k.0.1.1.0) q.ascend; within = q.within }
 
-service_bit : (b : List ℕ) → (decode b).tariff.service < 2
-unfolding decode
-service_bit b = field_lt b 20 1
+service_bit : (form : Form) (b : List ℕ) → (decode_in form b).tariff.service < 2
+unfolding decode_in
+service_bit form b = field_lt b 20 1
 
-pub sound_good : (b : List ℕ) → Sound b → Good b
-unfolding file_records placed width rules_for
-sound_good b s =
-    let f = decode b in
+pub sound_good : (form : Form) (b : List ℕ) → SoundIn form b → GoodIn form b
+unfolding rules_for
+sound_good form b s =
+    let f = decode_in form b in
     let t = f.tariff in
-    let k = s.records in
+    let from = bands_at form in
+    let k = rw (placed_file form f) at s.records in
     let range = k.0.1.1.0 in
-    let v = apart (bits_of b) bands_at (after_bands bands_at t.bands) (in_turn band none t.bands) (point_records t.service none f.points) (bands_end bands_at t.bands) k.1 in
-    let bs = good_bands (bits_of b) bands_at none t.bands v.0 k.0.0 in
-    let ps = good_points (bits_of b) t.service (after_bands bands_at t.bands) none f.points v.1 bs.within in
-    let header : GoodHeader (file_header f) =
+    let v = apart (bits_of b) from (after_bands from t.bands) (in_turn band none t.bands) (point_records t.service none f.points) (bands_end from t.bands) k.1 in
+    let bs = good_bands (bits_of b) from none t.bands v.0 k.0.0 in
+    let ps = good_points (bits_of b) t.service (after_bands from t.bands) none f.points v.1 bs.within in
+    let header : GoodHeader form (file_header f) =
     record {
       marked = k.0.1.0.0;
       version = k.0.1.0.1;
@@ -218,7 +220,7 @@ sound_good b s =
     } in
     record {
       short = s.short;
-      service = service_bit b;
+      service = service_bit form b;
       header = header;
       bands = bs.each;
       band_sizes = bs.ascend;
@@ -227,5 +229,5 @@ sound_good b s =
       fits = ps.within;
     }
 
-pub accepted : (b : List ℕ) → file_refusal b ≡ 0 → Good b
-accepted b h = sound_good b (accepted_sound b h)
+pub accepted : (form : Form) (b : List ℕ) → file_refusal_in form b ≡ 0 → GoodIn form b
+accepted form b h = sound_good form b (accepted_sound form b h)

@@ -10,6 +10,7 @@ use native.Mathlib.Omega.{arith}
 use lib.ListN.{length}
 use lib.Dec.{ltb, leb, eqb}
 use borrow.Author.Tests.{ltb-true, ltb-false}
+use Rattle.rules.specs.declared.Form.{Form}
 use Rattle.rules.specs.declared.Band.{Band}
 use Rattle.rules.specs.declared.PointHead.{PointHead}
 use Rattle.rules.specs.declared.Transfer.{Transfer}
@@ -18,10 +19,10 @@ use Rattle.rules.specs.declared.MeterHead.{MeterHead}
 use Rattle.rules.specs.declared.Read.{Read}
 use Rattle.rules.specs.Lists.{All, Some}
 use Rattle.rules.specs.Field.{field}
-use Rattle.rules.specs.File.{Meter, Point, File, meter_head, point_head, file_header, bands_at, after_band, after_bands, transfers_from, after_transfer, after_transfers, after_condition, after_conditions, reads_from, after_read, after_meter, after_point, decode}
-use Rattle.rules.specs.Refusal.{when, band_numbers, transfer_numbers, condition_numbers, read_numbers, meter_numbers, point_numbers, header_rule, file_numbers, padding_number, first_or, file_refusal, refusal}
-use Rattle.rules.specs.Lawful.{Record, band, transfer, condition, read, in_turn, meter_records, point_records, file_records, width, Placed, placed, Rule, rules_of, Keeps, bits_of, records_end, Padded, Sound, providers_in, Lawful, Breaks, First, here, past, FirstRecord, within, beyond, NoBreach, FileBreach, FirstBreach}
-use Rattle.rules.proofs.Placed.{ends, placed_append, bands_end, transfers_end, reads_end, inside, dated_end, inside_end, points_last}
+use Rattle.rules.specs.File.{Meter, Point, File, meter_head, point_head, file_header, bands_at, after_band, after_bands, transfers_from, after_transfer, after_transfers, after_condition, after_conditions, reads_from, after_read, after_meter, after_point, decode_in}
+use Rattle.rules.specs.Refusal.{when, band_numbers, transfer_numbers, condition_numbers, read_numbers, meter_numbers, point_numbers, file_numbers, padding_number, first_or, file_refusal_in, refusal_in}
+use Rattle.rules.specs.Lawful.{Record, band, transfer, condition, read, in_turn, meter_records, point_records, file_records, width, Placed, placed, Rule, rules_of, Keeps, bits_of, records_end, Padded, SoundIn, providers_in, LawfulIn, Breaks, First, here, past, FirstRecord, within, beyond, NoBreach, FileBreachIn, FirstBreachIn}
+use Rattle.rules.proofs.Placed.{ends, placed_append, bands_end, transfers_end, reads_end, inside, dated_end, inside_end, placed_file, points_last}
 use Rattle.rules.proofs.Judged.{Tries, or, below, the_same, least_after, value_before, latest_transfer, latest_read, Judged, Outcome, keeps, breaks, outcome, header_gives, band_gives, point_gives, transfer_gives, condition_gives, meter_gives, read_gives}
 
 -- THE NUMBERS OF RECORDS ONE AFTER THE OTHER
@@ -101,14 +102,16 @@ module _ (bits : ℕ) where
       (inside_numbered service (transfers_from at) p)
       (points_numbered service (after_point at p) (some (point_head p)) ps))
 
-  file_numbered : (f : File) → Numbered bits (placed 0 (file_records f)) (file_numbers bits f)
-  unfolding file_numbers file_records header_rule placed width
-  file_numbered f =
+  file_numbered : (form : Form) (f : File) → Numbered bits (placed 0 (file_records form f)) (file_numbers form bits f)
+  unfolding file_numbers
+  file_numbered form f =
       let t = f.tariff in
-      more (header_gives bits bands_at (file_header f))
-      (join_placed bands_at (after_bands bands_at t.bands) (in_turn band none t.bands) (point_records t.service none f.points) (bands_end bands_at t.bands)
-      (bands_numbered bands_at none t.bands)
-      (points_numbered t.service (after_bands bands_at t.bands) none f.points))
+      let from = bands_at form in
+      rw (placed_file form f)
+      (more (header_gives bits from form (file_header f))
+      (join_placed from (after_bands from t.bands) (in_turn band none t.bands) (point_records t.service none f.points) (bands_end from t.bands)
+      (bands_numbered from none t.bands)
+      (points_numbered t.service (after_bands from t.bands) none f.points)))
 
 -- THE FIRST NUMBER
 -- the number is what is said of it, and nothing else is
@@ -228,6 +231,12 @@ first_first [] n then = refl
 first_first (zero ∷ ns) n then = first_first ns n then
 first_first (suc k ∷ ns) n then = refl
 
+-- where nothing comes after it, a number is the first itself
+first_alone : (n : ℕ) → first_or (n ∷ []) 0 ≡ n
+unfolding first_or
+first_alone zero = refl
+first_alone (suc n) = refl
+
 module _ (file : List ℕ) (end : ℕ) where
   abbrev left : ℕ
   left = bits_of file - end
@@ -250,75 +259,70 @@ module _ (file : List ℕ) (end : ℕ) where
       go true e = absurd (nn (unpadded_true e))
       go false e = unpadded_tries.0 e
 
-module _ (file : List ℕ) (then : ℕ) {Then : ℕ → Type 0} (says : Says then Then) where
-  padding_says : (end : ℕ) → Says (first_or (padding_number file end ∷ []) then) (First (¬ Padded file end) 12 Then)
+-- read by any form
+module _ (form : Form) (file : List ℕ) where
+  padding_says : (then : ℕ) {Then : ℕ → Type 0} → Says then Then → (end : ℕ) → Says (first_or (padding_number file end ∷ []) then) (First (¬ Padded file end) 12 Then)
   unfolding padding_number first_or
-  padding_says end =
+  padding_says then says end =
       rw (first_when (unpadded file end) 11 0 then)
       (when_says (unpadded file end) 12 then (unpadded_true file end) (λ e np. np ((unpadded_tries file end).0 e)) says)
 
-  file_says : Says (first_or (file_refusal file ∷ []) then) (FileBreach file Then)
-  unfolding file_refusal
-  file_says =
-      rw (first_when, first_first, ← points_last file)
-      (over_says 65536 (length file) 1 _ (records_say _ (padding_says (records_end file)) (file_numbered (bits_of file) (decode file))))
+  file_says : (then : ℕ) {Then : ℕ → Type 0} → Says then Then → Says (first_or (file_refusal_in form file ∷ []) then) (FileBreachIn form file Then)
+  unfolding file_refusal_in
+  file_says then says =
+      rw (first_when, first_first, ← points_last form file)
+      (over_says 65536 (length file) 1 _ (records_say _ (padding_says then says (records_end form file)) (file_numbered (bits_of file) form (decode_in form file))))
 
--- 13 comes after 1 to 12
-refusal_then : (file : List ℕ) (then : ℕ) → first_or (refusal file ∷ []) then ≡ first_or (file_refusal file ∷ []) (when (ltb 64 (providers_in file)) 13 then)
-unfolding refusal first_or
-refusal_then file then =
-    let crowded = ltb 64 (providers_in file) in
-    first_first (file_refusal file ∷ []) (when crowded 13 0) then ∙ ap (λ n. first_or (file_refusal file ∷ []) n) (first_when crowded 12 0 then)
+  -- 13 comes after 1 to 12
+  refusal_then : (then : ℕ) → first_or (refusal_in form file ∷ []) then ≡ first_or (file_refusal_in form file ∷ []) (when (ltb 64 (providers_in form file)) 13 then)
+  unfolding refusal_in first_or
+  refusal_then then =
+      let crowded = ltb 64 (providers_in form file) in
+      first_first (file_refusal_in form file ∷ []) (when crowded 13 0) then ∙ ap (λ n. first_or (file_refusal_in form file ∷ []) n) (first_when crowded 12 0 then)
 
--- 1 to 13, and what comes after them
-pub breach_says : (file : List ℕ) (then : ℕ) {Then : ℕ → Type 0} → Says then Then → Says (first_or (refusal file ∷ []) then) (FirstBreach file Then)
-breach_says file then says = rw (refusal_then file then) (file_says file _ (over_says 64 (providers_in file) 13 then says))
+  -- 1 to 13, and what comes after them
+  pub breach_says : (then : ℕ) {Then : ℕ → Type 0} → Says then Then → Says (first_or (refusal_in form file ∷ []) then) (FirstBreachIn form file Then)
+  breach_says then says = rw (refusal_then then) (file_says _ (over_says 64 (providers_in form file) 13 then says))
 
--- where nothing comes after it, a number is the first itself
-first_alone : (n : ℕ) → first_or (n ∷ []) 0 ≡ n
-unfolding first_or
-first_alone zero = refl
-first_alone (suc n) = refl
+  pub first_breach : Says (refusal_in form file) (FirstBreachIn form file NoBreach)
+  first_breach = rw first_alone at (breach_says 0 none_says)
 
-pub first_breach : (file : List ℕ) → Says (refusal file) (FirstBreach file NoBreach)
-first_breach file = rw first_alone at (breach_says file 0 none_says)
+  -- WITHOUT A BREACH NOTHING IS REFUSED, AND NOTHING ELSE IS ACCEPTED
+  -- a breach of 1 to 12 has its number, and without one the file is sound
+  file_or : {Then : ℕ → Type 0} {n : ℕ} → FileBreachIn form file Then n → ((1 ≤ n) × (n ≤ 12)) ⊎ (SoundIn form file × Then n)
+  file_or (here long e) = inl (omega arith, omega arith)
+  file_or (past short (within b)) =
+      let x = broken_number b.before b.first b.later (rw b.order at (file_numbered (bits_of file) form (decode_in form file))) b.breaks in
+      inl (omega (arith, x.0), omega (arith, x.1))
+  file_or (past short (beyond all (here unpadded e))) = inl (omega arith, omega arith)
+  file_or (past short (beyond all (past padded then))) =
+      inr (record { short = omega arith; records = all; padded = not_unpadded file (records_end form file) padded }, then)
 
--- WITHOUT A BREACH NOTHING IS REFUSED, AND NOTHING ELSE IS ACCEPTED
--- a breach of 1 to 12 has its number, and without one the file is sound
-file_or : (file : List ℕ) {Then : ℕ → Type 0} {n : ℕ} → FileBreach file Then n → ((1 ≤ n) × (n ≤ 12)) ⊎ (Sound file × Then n)
-file_or file (here long e) = inl (omega arith, omega arith)
-file_or file (past short (within b)) =
-    let x = broken_number b.before b.first b.later (rw b.order at (file_numbered (bits_of file) (decode file))) b.breaks in
-    inl (omega (arith, x.0), omega (arith, x.1))
-file_or file (past short (beyond all (here unpadded e))) = inl (omega arith, omega arith)
-file_or file (past short (beyond all (past padded then))) =
-    inr (record { short = omega arith; records = all; padded = not_unpadded file (records_end file) padded }, then)
+  -- the same of 1 to 13
+  pub breach_or : {Then : ℕ → Type 0} {n : ℕ} → FirstBreachIn form file Then n → ((1 ≤ n) × (n ≤ 13)) ⊎ (LawfulIn form file × Then n)
+  breach_or {Then} {n} b = go (file_or b)
+    where
+      go : ((1 ≤ n) × (n ≤ 12)) ⊎ (SoundIn form file × First (64 < providers_in form file) 13 Then n) → ((1 ≤ n) × (n ≤ 13)) ⊎ (LawfulIn form file × Then n)
+      go (inl x) = inl (x.0, omega (arith, x.1))
+      go (inr (sound, here crowded e)) = inl (omega arith, omega arith)
+      go (inr (sound, past few then)) = inr (record { sound = sound; few = omega arith }, then)
 
--- the same of 1 to 13
-pub breach_or : (file : List ℕ) {Then : ℕ → Type 0} {n : ℕ} → FirstBreach file Then n → ((1 ≤ n) × (n ≤ 13)) ⊎ (Lawful file × Then n)
-breach_or file {Then} {n} b = go (file_or file b)
-  where
-    go : ((1 ≤ n) × (n ≤ 12)) ⊎ (Sound file × First (64 < providers_in file) 13 Then n) → ((1 ≤ n) × (n ≤ 13)) ⊎ (Lawful file × Then n)
-    go (inl x) = inl (x.0, omega (arith, x.1))
-    go (inr (sound, here crowded e)) = inl (omega arith, omega arith)
-    go (inr (sound, past few then)) = inr (record { sound = sound; few = omega arith }, then)
+  pub lawful_past : {Then : ℕ → Type 0} {n : ℕ} → LawfulIn form file → Then n → FirstBreachIn form file Then n
+  lawful_past l then =
+      let s = l.sound in
+      past (λ long. omega (arith, s.short)) (beyond s.records (past (λ unpadded. unpadded s.padded) (past (λ crowded. omega (arith, l.few)) then)))
 
-pub lawful_past : (file : List ℕ) {Then : ℕ → Type 0} {n : ℕ} → Lawful file → Then n → FirstBreach file Then n
-lawful_past file l then =
-    let s = l.sound in
-    past (λ long. omega (arith, s.short)) (beyond s.records (past (λ unpadded. unpadded s.padded) (past (λ crowded. omega (arith, l.few)) then)))
+  pub accepted_lawful : (refusal_in form file ≡ 0) ↔ LawfulIn form file
+  accepted_lawful = (λ e. only (breach_or ((first_breach 0).0 e)), λ l. (first_breach 0).1 (lawful_past l refl))
+    where
+      only : ((1 ≤ 0) × (0 ≤ 13)) ⊎ (LawfulIn form file × NoBreach 0) → LawfulIn form file
+      only (inl x) = absurd (omega (arith, x.0))
+      only (inr x) = x.0
 
-pub accepted_lawful : (file : List ℕ) → (refusal file ≡ 0) ↔ Lawful file
-accepted_lawful file = (λ e. only (breach_or file ((first_breach file 0).0 e)), λ l. (first_breach file 0).1 (lawful_past file l refl))
-  where
-    only : ((1 ≤ 0) × (0 ≤ 13)) ⊎ (Lawful file × NoBreach 0) → Lawful file
-    only (inl x) = absurd (omega (arith, x.0))
-    only (inr x) = x.0
-
--- none of 1 to 12
-pub accepted_sound : (file : List ℕ) → file_refusal file ≡ 0 → Sound file
-accepted_sound file e = only (file_or file (((rw first_alone at (file_says file 0 none_says)) 0).0 e))
-  where
-    only : ((1 ≤ 0) × (0 ≤ 12)) ⊎ (Sound file × NoBreach 0) → Sound file
-    only (inl x) = absurd (omega (arith, x.0))
-    only (inr x) = x.0
+  -- none of 1 to 12
+  pub accepted_sound : file_refusal_in form file ≡ 0 → SoundIn form file
+  accepted_sound e = only (file_or (((rw first_alone at (file_says 0 none_says)) 0).0 e))
+    where
+      only : ((1 ≤ 0) × (0 ≤ 12)) ⊎ (SoundIn form file × NoBreach 0) → SoundIn form file
+      only (inl x) = absurd (omega (arith, x.0))
+      only (inr x) = x.0

@@ -10,6 +10,7 @@ use native.Mathlib.Omega.{arith}
 use lib.Dec.{ltb, leb, eqb}
 use borrow.Author.Tests.{ltb-true, ltb-false, leb-true, leb-false, eqb-true, eqb-false, not-false, le-ltb, lt-leb, eq-eqb, ne_eqb}
 use Rattle.rules.specs.declared.Header.{Header}
+use Rattle.rules.specs.declared.Form.{Form}
 use Rattle.rules.specs.declared.Band.{Band}
 use Rattle.rules.specs.declared.PointHead.{PointHead}
 use Rattle.rules.specs.declared.Transfer.{Transfer}
@@ -20,7 +21,7 @@ use Rattle.rules.specs.Lists.{All}
 use Rattle.rules.specs.Calendar.{no_day}
 use Rattle.rules.specs.Litres.{dial_values}
 use Rattle.rules.specs.Lawful.{Record, header, band, point, transfer, condition, meter, read, IsDay, Between, DryInWater, HeaderInRange, BandInRange, PointInRange, TransferInRange, ConditionInRange, MeterInRange, ReadInRange, Above, Turned, Rule, rule, rules_for, rules_of, Breaks}
-use Rattle.rules.specs.Refusal.{when, outside, header_outside, band_outside, point_outside, transfer_outside, condition_outside, meter_outside, read_outside, band_rule, point_rule, transfer_rule, condition_rule, meter_rule, read_rule}
+use Rattle.rules.specs.Refusal.{when, outside, header_outside, band_outside, point_outside, transfer_outside, condition_outside, meter_outside, read_outside, header_rule, band_rule, point_rule, transfer_rule, condition_rule, meter_rule, read_rule}
 
 -- TESTS: each is false exactly where what it tries is so
 abbrev pub Tries : Bool → Type 0 → Type 0
@@ -71,9 +72,9 @@ dry service property roads = in_water service (or (none_of property) (none_of ro
     none_of x = (λ h. omega (arith, ltb-false 0 x h), λ h. le-ltb 0 x (omega arith))
 
 -- RANGES
-header_range : (h : Header) → Tries (header_outside h) (HeaderInRange h)
-header_range h =
-    let f = or (or (or (or (or (or (or (inside 2020 h.year 2098) (inside 1 h.bands 24)) (inside 1 h.points 64)) (not_above 10000 h.property))
+header_range : (form : Form) (h : Header) → Tries (header_outside form h) (HeaderInRange form h)
+header_range form h =
+    let f = or (or (or (or (or (or (or (inside 2020 h.year 2098) (inside 1 h.bands 24)) (inside 1 h.points form.most_points)) (not_above 10000 h.property))
     (not_above 10000 h.roads))
     (dry h.service h.property h.roads))
     (not_above 100000 h.capacity))
@@ -232,9 +233,9 @@ module _ (bits next : ℕ) where
   unfolding band_rule rules_for
   band_gives before b = judge 2 refl (not_above bits next) (judge 4 refl (band_range b) (judge 5 refl (above (λ b. b.size) before b) clear))
 
-  pub header_gives : (h : Header) → Gives (header h) (when (ltb bits next) 2 (when (not (eqb h.mark 0x5753 && eqb h.version 1)) 3 (when (header_outside h) 4 0)))
-  unfolding rules_for
-  header_gives h = judge 2 refl (not_above bits next) (judge 3 refl (both h.mark 0x5753 h.version 1) (judge 4 refl (header_range h) clear))
+  pub header_gives : (form : Form) (h : Header) → Gives (header form h) (header_rule form bits next h)
+  unfolding header_rule rules_for
+  header_gives form h = judge 2 refl (not_above bits next) (judge 3 refl (both h.mark 0x5753 h.version form.version) (judge 4 refl (header_range form h) clear))
 
   pub point_gives : (before : Option PointHead) (p : PointHead) → Gives (point before p) (point_rule bits next (least_after (λ p. p.number) before) p)
   unfolding point_rule rules_for

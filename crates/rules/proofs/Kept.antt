@@ -12,14 +12,15 @@ use Rattle.rules.specs.declared.Row.{Row}
 use Rattle.rules.specs.Sums.{only, over, over_days}
 use Rattle.rules.specs.Lists.{All}
 use Rattle.rules.specs.Calendar.{april_first, days_in_year}
-use Rattle.rules.specs.File.{Tariff, Supply, Point, File, decode}
-use Rattle.rules.specs.Refusal.{file_refusal, first_or, refusal}
-use Rattle.rules.specs.Good.{Good}
+use Rattle.rules.specs.declared.Form.{Form}
+use Rattle.rules.specs.File.{Tariff, Supply, Point, File, decode_in, decode}
+use Rattle.rules.specs.Refusal.{file_refusal_in, first_or, refusal_in, refusal}
+use Rattle.rules.specs.Good.{GoodIn}
 use Rattle.rules.specs.Charges.{charged_from, charged_count, over_charged, Charge, meter_charge, volumetric_charge, drainage_charge, charges}
 use Rattle.rules.specs.Settlement.{amount, centipence, supplied_on, statement, point_charge, provider_on, over_providers, provider_charge, provider_at, providers_of, plus, clear_row, row_and, rows}
 use Rattle.rules.specs.Report.{report}
 use Rattle.rules.specs.Services.{written, room_number, rows_number, rows_answer, rows_after, zero_statement, statement_at, statement_answer, report_number, report_answer, report_after}
-use Rattle.rules.specs.Promises.{Accepted, providers_at, Conserved, ChargeNear, AllNear, Summed, RowsAreSums, untraded, SameStatements, Served, Demand3}
+use Rattle.rules.specs.Promises.{AcceptedIn, providers_at, Conserved, ChargeNear, AllNear, Summed, RowsAreSums, statements, untraded, Alike, SameStatements, Served, Promised, Demand3}
 use Rattle.rules.proofs.Lists.{all, all_all, all_map}
 use Rattle.rules.proofs.Shares.{Covers, over_none, days_count, floors_add_up, owns_add_up, floor_near}
 use Rattle.rules.proofs.Rows.{added_at}
@@ -152,6 +153,18 @@ supplies file = map (λ point. point.supply) file.points
 untraded_supplies : (file : File) → supplies (untraded file) ≡ supplies file
 untraded_supplies file = map-map (λ point. point.supply) _ file.points
 
+same_supplies : (a b : File) → Alike a b → supplies a ≡ supplies b
+same_supplies a b alike = sym (untraded_supplies a) ∙ (ap supplies alike ∙ untraded_supplies b)
+
+same_tariff : (a b : File) → Alike a b → a.tariff ≡ b.tariff
+same_tariff a b alike = ap (λ (f : File). f.tariff) alike
+
+of_supplies : (file : File) → map (statement file.tariff) (supplies file) ≡ statements file
+of_supplies file = map-map (statement file.tariff) (λ point. point.supply) file.points
+
+same : (a b : File) → Alike a b → statements a ≡ statements b
+same a b alike = sym (of_supplies a) ∙ (ap₂ (λ t s. map (statement t) s) (same_tariff a b alike) (same_supplies a b alike) ∙ of_supplies b)
+
 -- a refused file's answer
 pub refused : (file : List ℕ) (place n : ℕ) → refusal file ≡ n → (n ≡ 0 → ⊥) → statement_answer file place ≡ record { number = n; statement = zero_statement }
 unfolding statement_answer
@@ -160,8 +173,8 @@ refused file place (suc n) e h = rw (e, statement_answer)
 
 pub same_statements : SameStatements
 same_statements a b ha hb alike place =
-    let same = sym (untraded_supplies (decode a)) ∙ (ap supplies alike ∙ untraded_supplies (decode b)) in
-    answered a ha place ∙ (ap₂ (λ t s. statement_at t s place) (ap (λ (f : File). f.tariff) alike) same ∙ sym (answered b hb place))
+    answered a ha place
+    ∙ (ap₂ (λ t s. statement_at t s place) (same_tariff (decode a) (decode b) alike) (same_supplies (decode a) (decode b) alike) ∙ sym (answered b hb place))
 
 -- SERVICES
 -- what is accepted is refused by nothing that has room for it
@@ -193,26 +206,25 @@ unfolding first_or
 first_none zero last h = refl
 first_none (suc n) last h = h
 
-pub accepted_file : (bytes : List ℕ) → Accepted bytes → file_refusal bytes ≡ 0
-unfolding refusal
-accepted_file bytes h = first_none (file_refusal bytes) _ h
+pub accepted_file : (form : Form) (bytes : List ℕ) → AcceptedIn form bytes → file_refusal_in form bytes ≡ 0
+unfolding refusal_in
+accepted_file form bytes h = first_none (file_refusal_in form bytes) _ h
 
-pub accepted_good : (bytes : List ℕ) → Accepted bytes → Good bytes
-accepted_good bytes h = good bytes (accepted_file bytes h)
+pub accepted_good : (form : Form) (bytes : List ℕ) → AcceptedIn form bytes → GoodIn form bytes
+accepted_good form bytes h = good form bytes (accepted_file form bytes h)
+
+-- NOTHING GAINED OR LOST, whatever the width of the count
+pub kept : (form : Form) (bytes : List ℕ) → AcceptedIn form bytes → Promised (decode_in form bytes)
+kept form bytes h =
+    let file = decode_in form bytes in
+    let g = accepted_good form bytes h in
+    let year : 2000 ≤ file.tariff.year = omega (arith, g.header.year_from) in
+    record {
+      owned = all_all (owned file.tariff file.tariff.service) file.points g.points;
+      conserved = all (Conserved file.tariff) (conserved file.tariff) file.points;
+      near = all (AllNear file.tariff) (λ point. all_near file.tariff point year) file.points;
+      rows = rows_are_sums file;
+    }
 
 pub demand_3 : Demand3
-demand_3 =
-    record {
-      accepted = λ bytes h.
-          let file = decode bytes in
-          let g = accepted_good bytes h in
-          let year : 2000 ≤ file.tariff.year = omega (arith, g.header.year_from) in
-          record {
-            owned = all_all (owned file.tariff file.tariff.service) file.points g.points;
-            conserved = all (Conserved file.tariff) (conserved file.tariff) file.points;
-            near = all (AllNear file.tariff) (λ point. all_near file.tariff point year) file.points;
-            rows = rows_are_sums file;
-            served = served bytes h;
-          };
-      alike = same_statements;
-    }
+demand_3 = record { kept = kept; same = λ form a b. same (decode_in form a) (decode_in form b); served = served; alike = same_statements }

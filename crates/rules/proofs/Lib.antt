@@ -4,12 +4,14 @@ pub mod Sums
 pub mod Rows
 pub mod Providers
 pub mod Fields
+pub mod Positions
 pub mod Placed
 pub mod Judged
 pub mod Breaches
 pub mod Accepted
 pub mod InForce
 pub mod Kept
+pub mod Forms
 pub mod Examples
 pub mod Sentences
 pub mod Numbers

@@ -6,6 +6,7 @@ use mathlib.Core.Logic.{◌↔◌, ◌⊎◌, inl, inr}
 use mathlib.Core.List.{List, [], ◌∷◌}
 use native.Mathlib.Omega.{arith}
 use lib.ListN.{length, drop, length-append}
+use Rattle.rules.specs.Form.{form_at}
 use Rattle.rules.specs.File.{decode}
 use Rattle.rules.specs.Refusal.{first_or, refusal}
 use Rattle.rules.specs.Lawful.{Lawful, First, here, past, NoBreach, FirstBreach}
@@ -18,12 +19,12 @@ use Rattle.rules.proofs.Sentences.{no_report_under_52}
 -- 14, after the file's own, where what was lent has fewer elements than are wanted
 pub room_says : (file : List ℕ) (room wanted : ℕ) → Says (first_or (refusal file ∷ []) (room_number room wanted)) (FirstBreach file (First (room < wanted) 14 NoBreach))
 unfolding room_number
-room_says file room wanted = breach_says file _ (over_says room wanted 14 0 none_says)
+room_says file room wanted = breach_says (form_at file) file _ (over_says room wanted 14 0 none_says)
 
 module _ {file : List ℕ} {Own : Type 0} {last : ℕ} where
   -- it is 0 exactly where the file is lawful and the service's own breach is not there
   pub none_free : {v : ℕ} → Says v (FirstBreach file (First Own last NoBreach)) → 1 ≤ last → (v ≡ 0) ↔ (Lawful file × ¬ Own)
-  none_free says some = (λ e. go (breach_or file ((says 0).0 e)), λ x. (says 0).1 (lawful_past file x.0 (past x.1 refl)))
+  none_free says some = (λ e. go (breach_or (form_at file) file ((says 0).0 e)), λ x. (says 0).1 (lawful_past (form_at file) file x.0 (past x.1 refl)))
     where
       go : ((1 ≤ 0) × (0 ≤ 13)) ⊎ (Lawful file × First Own last NoBreach 0) → Lawful file × ¬ Own
       go (inl x) = absurd (omega (arith, x.0))
@@ -32,7 +33,7 @@ module _ {file : List ℕ} {Own : Type 0} {last : ℕ} where
 
   -- and else at most the last
   pub number_most : {v : ℕ} → Says v (FirstBreach file (First Own last NoBreach)) → 13 ≤ last → v ≤ last
-  number_most {v} says high = go (breach_or file ((says v).0 refl))
+  number_most {v} says high = go (breach_or (form_at file) file ((says v).0 refl))
     where
       go : ((1 ≤ v) × (v ≤ 13)) ⊎ (Lawful file × First Own last NoBreach v) → v ≤ last
       go (inl x) = omega (arith, x.1)
@@ -56,7 +57,7 @@ module _ (file : List ℕ) (room : ℕ) where
       go (suc n) e = inl (omega arith, omega (arith, e, number_low))
       go zero e =
           let free = (none_free (room_says file room (length (report (decode file)))) (omega arith)).0 e in
-          inr (no_report_under_52 file ((accepted_lawful file).1 free.0), omega (arith, free.1))
+          inr (no_report_under_52 (form_at file) file ((accepted_lawful (form_at file) file).1 free.0), omega (arith, free.1))
 
 -- an answer over 14 is a length, and so many bytes are there afterwards
 pub length_within : (file space exit : List ℕ) (answer : ℕ) → answer ≡ report_answer file (length space) → exit ≡ report_after file space → 14 < answer → answer ≤ length exit

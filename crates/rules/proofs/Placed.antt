@@ -3,14 +3,17 @@ use Prim.Native.Nat.{ℕ, ◌+◌}
 use mathlib.Core.Path.{◌≡◌, refl, ap, ◌∙◌}
 use mathlib.Core.Option.{Option, none, some}
 use mathlib.Core.List.{List, [], ◌∷◌, ◌++◌}
+use native.Mathlib.Omega.{arith}
+use Rattle.rules.specs.declared.Header.{Header}
 use Rattle.rules.specs.declared.Band.{Band}
 use Rattle.rules.specs.declared.PointHead.{PointHead}
 use Rattle.rules.specs.declared.Transfer.{Transfer}
 use Rattle.rules.specs.declared.Condition.{Condition}
 use Rattle.rules.specs.declared.MeterHead.{MeterHead}
 use Rattle.rules.specs.declared.Read.{Read}
-use Rattle.rules.specs.File.{Meter, Point, meter_head, point_head, bands_at, after_bands, transfers_from, after_transfers, after_conditions, reads_from, after_reads, after_meter, after_meters, after_point, after_points, after, decode}
-use Rattle.rules.specs.Lawful.{Record, band, transfer, condition, read, in_turn, meter_records, point_records, file_records, width, placed, records_end}
+use Rattle.rules.specs.declared.Form.{Form}
+use Rattle.rules.specs.File.{Meter, Point, File, meter_head, point_head, file_header, bands_at, after_bands, transfers_from, after_transfers, after_conditions, reads_from, after_reads, after_meter, after_meters, after_point, after_points, after, decode_in}
+use Rattle.rules.specs.Lawful.{Record, header, band, transfer, condition, read, in_turn, meter_records, point_records, file_records, width, placed, records_end}
 
 -- the position after some records
 abbrev pub ends : ℕ → List Record → ℕ
@@ -83,11 +86,28 @@ points_end service at before (p ∷ ps) =
     ends_append (transfers_from at) (inside service p) (point_records service (some (point_head p)) ps)
     ∙ (ap (λ k. ends k (point_records service (some (point_head p)) ps)) (inside_end service at p) ∙ points_end service (after_point at p) (some (point_head p)) ps)
 
+-- A WHOLE FILE
+-- the records after the header
+abbrev pub after_header : File → List Record
+after_header f = in_turn band none f.tariff.bands ++ point_records f.tariff.service none f.points
+
+-- the header ends where the bands begin, whatever the width of the count
+header_end : (form : Form) (h : Header) → 0 + width (header form h) ≡ bands_at form
+unfolding width
+header_end form h = omega arith
+
+pub placed_file : (form : Form) (f : File) → placed 0 (file_records form f) ≡ record { what = header form (file_header f); next = bands_at form } ∷ placed (bands_at form) (after_header f)
+unfolding file_records placed
+placed_file form f = ap (λ k. record { what = header form (file_header f); next = k } ∷ placed k (after_header f)) (header_end form (file_header f))
+
 -- what stands after the last record, by the positions of `File`
-pub points_last : (file : List ℕ) → records_end file ≡ after_points (after_bands bands_at (decode file).tariff.bands) (decode file).points
-unfolding file_records after width
-points_last file =
-    let t = (decode file).tariff in
+pub points_last : (form : Form) (file : List ℕ) → records_end form file ≡ after_points (after_bands (bands_at form) (decode_in form file).tariff.bands) (decode_in form file).points
+unfolding file_records after
+points_last form file =
+    let f = decode_in form file in
+    let t = f.tariff in
+    let from = bands_at form in
     let bs = in_turn band none t.bands in
-    let ps = point_records t.service none (decode file).points in
-    ends_append bands_at bs ps ∙ (ap (λ k. ends k ps) (bands_end bands_at t.bands) ∙ points_end t.service (after_bands bands_at t.bands) none (decode file).points)
+    let ps = point_records t.service none f.points in
+    ap (λ k. ends k (after_header f)) (header_end form (file_header f))
+    ∙ (ends_append from bs ps ∙ (ap (λ k. ends k ps) (bands_end from t.bands) ∙ points_end t.service (after_bands from t.bands) none f.points))

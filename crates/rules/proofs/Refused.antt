@@ -12,6 +12,7 @@ use lib.Dec.{leb, eqb}
 use borrow.Author.Tests.{leb-true, leb-false, le-leb, lt-leb, ne_eqb}
 use Rattle.rules.specs.declared.Row.{Row}
 use Rattle.rules.specs.Sums.{only}
+use Rattle.rules.specs.Form.{form_at}
 use Rattle.rules.specs.File.{Tariff, Supply, decode}
 use Rattle.rules.specs.Refusal.{when, first_or, refusal}
 use Rattle.rules.specs.Lawful.{Lawful}
@@ -97,7 +98,7 @@ module _ (file : List ℕ) (place : ℕ) where
   statement_numbered =
       let points = length (decode file).points in
       let own = when_says missing 15 0 (leb-true points place) (λ e there. omega (arith, leb-false points place e)) none_says in
-      let says = rw (← statement_number) at (breach_says file _ own) in
+      let says = rw (← statement_number) at (breach_says (form_at file) file _ own) in
       let free = none_free says (omega arith) in
       record {
         first = says;
@@ -117,7 +118,7 @@ module _ (file : List ℕ) (room : ℕ) where
   -- where there is no number, the answer is the report's length, from 52 on
   report_length : report_number file room ≡ 0 → (report_answer file room ≡ size) × (52 ≤ size)
   unfolding report_answer first_or
-  report_length e = (simp e, no_report_under_52 file ((accepted_lawful file).1 (report_free.0 e).0))
+  report_length e = (simp e, no_report_under_52 (form_at file) file ((accepted_lawful (form_at file) file).1 (report_free.0 e).0))
 
   -- and else it is the number, from 1 to 14
   report_number_lem : ¬ (report_number file room ≡ 0) → (report_answer file room ≡ report_number file room) × (1 ≤ report_number file room) × (report_number file room ≤ 14)
@@ -166,13 +167,13 @@ counted : (file : List ℕ) → Counted file
 counted file =
     let t = (decode file).tariff in
     let ps = (decode file).points in
-    record { providers = listed t ps; owned = λ sound. all_all (owned t t.service) ps (sound_good file sound).points }
+    record { providers = listed t ps; owned = λ sound. all_all (owned t t.service) ps (sound_good (form_at file) file sound).points }
 
 pub demand_1 : Demand1
 demand_1 =
     record {
-      lawful = accepted_lawful;
-      first = first_breach;
+      lawful = λ file. accepted_lawful (form_at file) file;
+      first = λ file. first_breach (form_at file) file;
       counted = counted;
       rows = rows_numbered;
       statement = statement_numbered;

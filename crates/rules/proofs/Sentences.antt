@@ -11,12 +11,13 @@ use lib.Dec.{ltb, eqb}
 use lib.ListN.{length, length-append}
 use borrow.Author.Tests.{le-ltb}
 use Rattle.rules.specs.Sums.{over_days}
-use Rattle.rules.specs.File.{Point, Tariff, decode}
+use Rattle.rules.specs.declared.Form.{Form}
+use Rattle.rules.specs.File.{Point, Tariff, decode_in}
 use Rattle.rules.specs.Charges.{over_charged, charged_from, charged_count, volume_on, volume, volumetric_charge}
 use Rattle.rules.specs.Settlement.{over_providers, provider_on}
 use Rattle.rules.specs.Text.{text, digits, decimal}
 use Rattle.rules.specs.Report.{field, service_name, heading, report_of, report}
-use Rattle.rules.specs.Promises.{Accepted}
+use Rattle.rules.specs.Promises.{AcceptedIn}
 use Rattle.rules.proofs.Shares.{days_eq, days_none}
 use Rattle.rules.proofs.Sums.{only_none}
 use Rattle.rules.proofs.Kept.{accepted_good}
@@ -71,10 +72,10 @@ service_long service = pick (eqb service 0)
     pick true = omega arith
     pick false = omega arith
 
-pub no_report_under_52 : (bytes : List ℕ) → Accepted bytes → 52 ≤ length (report (decode bytes))
+pub no_report_under_52 : (form : Form) (bytes : List ℕ) → AcceptedIn form bytes → 52 ≤ length (report (decode_in form bytes))
 unfolding report report_of heading field text decimal
-no_report_under_52 bytes h =
-    let file = decode bytes in
-    let year : 2020 ≤ file.tariff.year = (accepted_good bytes h).header.year_from in
+no_report_under_52 form bytes h =
+    let file = decode_in form bytes in
+    let year : 2020 ≤ file.tariff.year = (accepted_good form bytes h).header.year_from in
     let four = digits_long 3 file.tariff.year file.tariff.year (omega arith) (omega arith) in
     simp length-append (omega (arith, service_long file.tariff.service))

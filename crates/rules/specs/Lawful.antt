@@ -1,4 +1,5 @@
--- Document 01, "Numbers of a breach", rule by rule: what each record is held to, when a file breaks no rule, and which breach is the first.
+-- Document 01, "Numbers of a breach", with the forms of document 02, rule by rule: what each record is held to, when a file breaks no rule, and
+-- which breach is the first.
 -- Nothing here follows `Refusal`, which computes the number; `Promises.Demand1` says that what it computes is this.
 use Rattle.std.specs.Prelude.{ℕ, ◌+◌, ◌-◌, ◌*◌, ◌≤◌, ◌<◌, ◌≡◌, List, [], ◌∷◌, ◌++◌, length}
 use Prim.{Unit}
@@ -13,15 +14,17 @@ use Rattle.rules.specs.declared.Read.{Read}
 use Rattle.rules.specs.Lists.{All, Some}
 use Rattle.rules.specs.Calendar.{last_day}
 use Rattle.rules.specs.Field.{field}
-use Rattle.rules.specs.File.{Meter, Point, File, meter_head, point_head, file_header, after, decode}
+use Rattle.rules.specs.declared.Form.{Form}
+use Rattle.rules.specs.Form.{form_at}
+use Rattle.rules.specs.File.{Meter, Point, File, meter_head, point_head, file_header, after, decode_in}
 use Rattle.rules.specs.Litres.{dial_values}
 use Rattle.rules.specs.Settlement.{providers_of}
 
 -- THE RECORDS, IN FILE ORDER
--- A record, beside what its rules compare it with: the one before it in its list, if there is one; for a transfer the point's connection day;
--- for a condition and a meter the file's service; for a read its meter.
+-- A record, beside what its rules compare it with: for the header the form that the file is read by; the one before it in its list, if there is
+-- one; for a transfer the point's connection day; for a condition and a meter the file's service; for a read its meter.
 pub data Record : Type 0 where
-  header : Header → Record
+  header : Form → Header → Record
   band : Option Band → Band → Record
   point : Option PointHead → PointHead → Record
   transfer : ℕ → Option Transfer → Transfer → Record
@@ -50,15 +53,15 @@ point_records service before (p ∷ ps) =
     ++ point_records service (some (point_head p)) ps
 
 -- the header, all bands, all points
-unfoldable pub file_records : File → List Record
-file_records f =
-    header (file_header f)
+unfoldable pub file_records : Form → File → List Record
+file_records form f =
+    header form (file_header f)
     ∷ in_turn band none f.tariff.bands
     ++ point_records f.tariff.service none f.points
 
 -- the bits of a record, field by field
 unfoldable pub width : Record → ℕ
-width (header h) = 16 + 4 + 1 + 12 + 5 + 7 + 14 + 14 + 17 + 17
+width (header form h) = 16 + 4 + 1 + 12 + 5 + form.count_bits + 14 + 14 + 17 + 17
 width (band before b) = 16 + 30 + 20 + 24
 width (point before p) = 32 + 16 + 16 + 5 + 6 + 5
 width (transfer connected before t) = 16 + 16
@@ -88,11 +91,11 @@ Between low high x = (low ≤ x) × (x ≤ high)
 abbrev pub DryInWater : ℕ → ℕ → ℕ → Type 0
 DryInWater service property roads = service ≡ 0 → (property ≡ 0) × (roads ≡ 0)
 
-abbrev pub HeaderInRange : Header → Type 0
-HeaderInRange h =
+abbrev pub HeaderInRange : Form → Header → Type 0
+HeaderInRange form h =
     Between 2020 2098 h.year
     × Between 1 24 h.bands
-    × Between 1 64 h.points
+    × Between 1 form.most_points h.points
     × (h.property ≤ 10000)
     × (h.roads ≤ 10000)
     × DryInWater h.service h.property h.roads
@@ -160,7 +163,7 @@ rule number Kept = record { number = number; Kept = Kept }
 
 -- the rules for a record by what it holds, their numbers ascending
 unfoldable pub rules_for : Record → List Rule
-rules_for (header h) = rule 3 ((h.mark ≡ 0x5753) × (h.version ≡ 1)) ∷ rule 4 (HeaderInRange h) ∷ []
+rules_for (header form h) = rule 3 ((h.mark ≡ 0x5753) × (h.version ≡ form.version)) ∷ rule 4 (HeaderInRange form h) ∷ []
 rules_for (band before b) = rule 4 (BandInRange b) ∷ rule 5 (Above (λ b. b.size) before b) ∷ []
 rules_for (point before p) = rule 4 (PointInRange p) ∷ rule 5 (Above (λ p. p.number) before p) ∷ rule 8 (p.connected ≤ p.disconnected) ∷ []
 rules_for (transfer connected before t) =
@@ -188,12 +191,12 @@ Keeps bits p = All (λ rule. rule.Kept) (rules_of bits p)
 abbrev pub bits_of : List ℕ → ℕ
 bits_of file = length file * 8
 
-abbrev pub records_of : List ℕ → List Placed
-records_of file = placed 0 (file_records (decode file))
+abbrev pub records_in : Form → List ℕ → List Placed
+records_in form file = placed 0 (file_records form (decode_in form file))
 
 -- the position after the last record
-abbrev pub records_end : List ℕ → ℕ
-records_end file = after (λ at r. at + width r) 0 (file_records (decode file))
+abbrev pub records_end : Form → List ℕ → ℕ
+records_end form file = after (λ at r. at + width r) 0 (file_records form (decode_in form file))
 
 -- "Bits after the last record are zero to the end of that byte, and no byte follows."
 pub record Padded (file : List ℕ) (end : ℕ) : Type 0 where
@@ -201,19 +204,26 @@ pub record Padded (file : List ℕ) (end : ℕ) : Type 0 where
   pub zeros : field file end (bits_of file - end) ≡ 0
 
 -- none of 1 to 12
-pub record Sound (file : List ℕ) : Type 0 where
+pub record SoundIn (form : Form) (file : List ℕ) : Type 0 where
   pub short : length file ≤ 65536
-  pub records : All (Keeps (bits_of file)) (records_of file)
-  pub padded : Padded file (records_end file)
+  pub records : All (Keeps (bits_of file)) (records_in form file)
+  pub padded : Padded file (records_end form file)
 
 -- how many providers have a charged day
-abbrev pub providers_in : List ℕ → ℕ
-providers_in file = length (providers_of (decode file).tariff (decode file).points)
+abbrev pub providers_in : Form → List ℕ → ℕ
+providers_in form file = let f = decode_in form file in length (providers_of f.tariff f.points)
 
 -- none of 1 to 13
-pub record Lawful (file : List ℕ) : Type 0 where
-  pub sound : Sound file
-  pub few : providers_in file ≤ 64
+pub record LawfulIn (form : Form) (file : List ℕ) : Type 0 where
+  pub sound : SoundIn form file
+  pub few : providers_in form file ≤ 64
+
+-- by the file's own form
+abbrev pub Sound : List ℕ → Type 0
+Sound file = SoundIn (form_at file) file
+
+abbrev pub Lawful : List ℕ → Type 0
+Lawful file = LawfulIn (form_at file) file
 
 -- THE FIRST BREACH
 -- n is the number of one of the rules that is broken, and the least
@@ -245,8 +255,13 @@ abbrev pub NoBreach : ℕ → Type 0
 NoBreach n = n ≡ 0
 
 -- "Order: 1; then each record in file order, its own numbers ascending; then 12, 13; then 14 or 15." `Then` says what comes after.
-abbrev pub FileBreach : List ℕ → (ℕ → Type 0) → ℕ → Type 0
-FileBreach file Then = First (65536 < length file) 1 (FirstRecord (bits_of file) (records_of file) (First (¬ Padded file (records_end file)) 12 Then))
+abbrev pub FileBreachIn : Form → List ℕ → (ℕ → Type 0) → ℕ → Type 0
+FileBreachIn form file Then =
+    First (65536 < length file) 1 (FirstRecord (bits_of file) (records_in form file) (First (¬ Padded file (records_end form file)) 12 Then))
 
+abbrev pub FirstBreachIn : Form → List ℕ → (ℕ → Type 0) → ℕ → Type 0
+FirstBreachIn form file Then = FileBreachIn form file (First (64 < providers_in form file) 13 Then)
+
+-- by the file's own form
 abbrev pub FirstBreach : List ℕ → (ℕ → Type 0) → ℕ → Type 0
-FirstBreach file Then = FileBreach file (First (64 < providers_in file) 13 Then)
+FirstBreach file Then = FirstBreachIn (form_at file) file Then

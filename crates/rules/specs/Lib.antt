@@ -2,6 +2,7 @@ pub mod Lists
 pub mod Sums
 pub mod Calendar
 pub mod Field
+pub mod Form
 pub mod File
 pub mod Litres
 pub mod Charges

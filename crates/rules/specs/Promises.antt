@@ -1,14 +1,16 @@
--- Demands 1 and 3: what is refused, and that however a point passes between providers, nothing is gained or lost. Here they are stated;
--- `proofs/Refused` and `proofs/Kept` prove them of every file.
-use Rattle.std.specs.Prelude.{ℕ, ◌+◌, ◌*◌, ◌≤◌, ◌<◌, ◌≡◌, ◌↔◌, List, [], ◌∷◌, ◌++◌, map, eqb, length, get_or, drop}
+-- Demands 1 and 3: what is refused, and that however a point passes between providers, nothing is gained or lost; and what P1 asks of the
+-- versions. Here they are stated; `proofs/Refused`, `proofs/Kept` and `proofs/Forms` prove them of every file.
+use Rattle.std.specs.Prelude.{ℕ, ◌+◌, ◌*◌, ◌≤◌, ◌<◌, ◌≡◌, ◌↔◌, ◌⊎◌, List, [], ◌∷◌, ◌++◌, map, eqb, length, get_or, drop}
 use Rattle.rules.specs.declared.Row.{Row}
 use Rattle.rules.specs.declared.Statement.{Statement}
 use Rattle.rules.specs.declared.Transfer.{Transfer}
 use Rattle.rules.specs.Sums.{over}
 use Rattle.rules.specs.Lists.{All, Some, Lists, IsLatest}
 use Rattle.rules.specs.Calendar.{april_first}
-use Rattle.rules.specs.File.{Tariff, Supply, Point, File, decode}
-use Rattle.rules.specs.Refusal.{refusal}
+use Rattle.rules.specs.declared.Form.{Form}
+use Rattle.rules.specs.Form.{form1, form2, version_at, form_at}
+use Rattle.rules.specs.File.{Tariff, Supply, Point, File, decode_in, decode}
+use Rattle.rules.specs.Refusal.{refusal_in, refusal}
 use Rattle.rules.specs.Lawful.{Sound, Lawful, First, NoBreach, FirstBreach}
 use Rattle.rules.specs.Charges.{over_charged, Charge, charges}
 use Rattle.rules.specs.Settlement.{amount, point_charge, statement, provider_on, over_providers, provider_charge, provider_at, providers_of, rows}
@@ -85,9 +87,12 @@ pub record Demand1 : Type 0 where
   pub report : (file space : List ℕ) → ReportNumbered file space
 
 -- DEMAND 3
--- a file is accepted when it breaks none of 1 to 12, nor 13
+-- a file is accepted when it breaks none of 1 to 12, nor 13: read by a form, and by that of its own version
+abbrev pub AcceptedIn : Form → List ℕ → Type 0
+AcceptedIn form bytes = refusal_in form bytes ≡ 0
+
 abbrev pub Accepted : List ℕ → Type 0
-Accepted bytes = refusal bytes ≡ 0
+Accepted bytes = AcceptedIn (form_at bytes) bytes
 
 -- a point's providers: those to whom a charged day belongs
 abbrev pub providers_at : Tariff → Point → List ℕ
@@ -145,12 +150,12 @@ untraded file =
     }
 
 -- two files are alike except in transfers: every field is equal but the points' transfer counts and the transfer records
-abbrev pub Alike : List ℕ → List ℕ → Type 0
-Alike a b = untraded (decode a) ≡ untraded (decode b)
+abbrev pub Alike : File → File → Type 0
+Alike a b = untraded a ≡ untraded b
 
 -- Two accepted files alike except in transfers have the same statements, in all nine figures.
 abbrev pub SameStatements : Type 0
-SameStatements = (a b : List ℕ) → Accepted a → Accepted b → Alike a b → (place : ℕ) → statement_answer a place ≡ statement_answer b place
+SameStatements = (a b : List ℕ) → Accepted a → Accepted b → Alike (decode a) (decode b) → (place : ℕ) → statement_answer a place ≡ statement_answer b place
 
 -- SERVICES
 -- The rows are those that the rows service writes, the statements those that the statement service hands back, and the report that which the
@@ -164,15 +169,31 @@ pub record Served (bytes : List ℕ) : Type 0 where
       (report_answer bytes (length space) ≡ length (report (decode bytes)))
       × (report_after bytes space ≡ report (decode bytes) ++ drop (length (report (decode bytes))) space)
 
--- what is promised of one accepted file
-pub record Promised (bytes : List ℕ) : Type 0 where
-  pub owned : All (DaysOwned (decode bytes).tariff) (decode bytes).points
-  pub conserved : All (Conserved (decode bytes).tariff) (decode bytes).points
-  pub near : All (AllNear (decode bytes).tariff) (decode bytes).points
-  pub rows : RowsAreSums (decode bytes)
-  pub served : Served bytes
+-- what is promised of what one accepted file holds
+pub record Promised (file : File) : Type 0 where
+  pub owned : All (DaysOwned file.tariff) file.points
+  pub conserved : All (Conserved file.tariff) file.points
+  pub near : All (AllNear file.tariff) file.points
+  pub rows : RowsAreSums file
 
--- Demand 3 whole
+-- Demand 3 whole. P1: "Conservation of days, litres and charges is to hold for either version, shown over the width of the count." It holds over
+-- every form, whatever its width and its most points, and so for the file's own version, by which the services go (`served`, `alike`).
 pub record Demand3 : Type 0 where
-  pub accepted : (bytes : List ℕ) → Accepted bytes → Promised bytes
+  pub kept : (form : Form) (bytes : List ℕ) → AcceptedIn form bytes → Promised (decode_in form bytes)
+  pub same : (form : Form) (a b : List ℕ) → Alike (decode_in form a) (decode_in form b) → statements (decode_in form a) ≡ statements (decode_in form b)
+  pub served : (bytes : List ℕ) → Accepted bytes → Served bytes
   pub alike : SameStatements
+
+-- P1, VERSIONS
+-- a file is read and refused by a form
+pub record ReadBy (form : Form) (bytes : List ℕ) : Type 0 where
+  pub file : decode bytes ≡ decode_in form bytes
+  pub number : refusal bytes ≡ refusal_in form bytes
+
+-- "Version 1 files are read as before, and version 4-bit values other than 1 and 2 are still number 3": no file of another version is accepted,
+-- and the number is 3 where the file is not too long and has the 14 bytes that a header takes in either version, as 1 and 2 come before it.
+pub record Versions : Type 0 where
+  pub first : (bytes : List ℕ) → version_at bytes ≡ 1 → ReadBy form1 bytes
+  pub second : (bytes : List ℕ) → version_at bytes ≡ 2 → ReadBy form2 bytes
+  pub known : (bytes : List ℕ) → Accepted bytes → (version_at bytes ≡ 1) ⊎ (version_at bytes ≡ 2)
+  pub others : (bytes : List ℕ) → length bytes ≤ 65536 → 14 ≤ length bytes → ¬ (version_at bytes ≡ 1) → ¬ (version_at bytes ≡ 2) → refusal bytes ≡ 3
