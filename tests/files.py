@@ -61,8 +61,19 @@ def changed(text, *pairs):
     return text
 
 
+def second(text):
+    """The same file in version 2."""
+    return changed(text, ("header", "header version 2"))
+
+
 def lines(form, numbers):
     return "\n".join(form.format(n) for n in numbers)
+
+
+def points(count, *pairs):
+    """The worked file with that many points, each of one transfer, and lines changed."""
+    text = lines("point number {} connected 7000 disconnected none\ntransfer day 0 provider 1", range(count))
+    return changed(WORKED[: WORKED.index("point")] + text + "\n", *pairs)
 
 
 def reads(values, digits=5, installed=7000, removed="none"):

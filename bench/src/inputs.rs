@@ -80,8 +80,10 @@ fn meter(place: u64, at: u64, reads: u64) -> Meter {
     }
 }
 
-fn header() -> Header {
+/// A header of the first version that can have so many points.
+fn header(points: u64) -> Header {
     Header {
+        version: if points <= most_points(1) { 1 } else { 2 },
         sewerage: true,
         year: YEAR,
         property: 280,
@@ -99,7 +101,7 @@ fn band(at: u64) -> Band {
 
 pub fn estate(estate: &Estate) -> File {
     File {
-        header: header(),
+        header: header(estate.points),
         bands: (0..estate.bands).map(band).collect(),
         points: (0..estate.points).map(|place| point(estate, place)).collect(),
     }
@@ -146,7 +148,7 @@ fn days(rng: &mut Rng, count: usize) -> Vec<u64> {
 fn irregular() -> File {
     let mut rng = Rng::new(1);
     let points = (0..32).map(|place| irregular_point(&mut rng, place)).collect();
-    File { header: header(), bands: (0..12).map(band).collect(), points }
+    File { header: header(32), bands: (0..12).map(band).collect(), points }
 }
 
 fn irregular_point(rng: &mut Rng, place: u64) -> Point {
@@ -216,6 +218,7 @@ pub fn all() -> Vec<(&'static str, &'static str, Vec<u8>)> {
     };
     let longest = Estate { points: 17, reads: 40, ..fullest };
     let crowded = Estate { transfers: 24, conditions: 48, meters: 4, ..fullest };
+    let park = Estate { points: 256, meters: 3, ..fullest };
     let typical = estate(&TYPICAL).to_bytes();
     let fullest = filled(&fullest).to_bytes();
     let mut refused = typical.clone();
@@ -237,6 +240,11 @@ pub fn all() -> Vec<(&'static str, &'static str, Vec<u8>)> {
             "32 points, 6 transfers, 6 conditions, 6 meters, up to 20 irregular reads, 16 providers",
             irregular().to_bytes(),
         ),
+        (
+            "park",
+            "version 2, 256 points, 3 meters, 12 or 13 reads, 64 providers",
+            filled(&park).to_bytes(),
+        ),
         ("refused", "typical, the last read past its dial: 4", refused),
         ("refused-last", "fullest, a padding bit set: 12", refused_last),
     ]
@@ -246,7 +254,7 @@ pub fn all() -> Vec<(&'static str, &'static str, Vec<u8>)> {
 pub fn growth() -> Vec<(&'static str, u64, Vec<u8>)> {
     let mut files = Vec::new();
     let mut add = |what, count, some: Estate| files.push((what, count, estate(&some).to_bytes()));
-    for points in [1, 2, 4, 8, 16, 24, 32, 48, 64] {
+    for points in [1, 2, 4, 8, 16, 24, 32, 48, 64, 128, 256] {
         add("points", points, Estate { points, ..TYPICAL });
     }
     for meters in [0, 1, 2, 4, 6, 8, 10, 12, 16] {

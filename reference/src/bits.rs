@@ -18,6 +18,15 @@ impl<'a> Cursor<'a> {
         self.bytes.len() * 8 - self.bit
     }
 
+    /// A field further on, which is not yet read; 0 where it lacks bits.
+    pub fn ahead(&self, bits: usize, width: u32) -> u64 {
+        let mut ahead = Cursor { bytes: self.bytes, bit: self.bit + bits };
+        match self.bits_left() < bits + width as usize {
+            true => 0,
+            false => ahead.field(width),
+        }
+    }
+
     pub fn field(&mut self, width: u32) -> u64 {
         let mut value = 0;
         for _ in 0..width {

@@ -111,8 +111,9 @@ fn rows_lines(case: &Case) -> String {
 /// "places from 0 up to and including the first whose NUMBER is not 0"
 fn statement_lines(case: &Case) -> String {
     let mut lines = String::new();
+    let file = services::accept(&case.file);
     for place in 0.. {
-        let (number, statement) = services::statement(&case.file, place);
+        let (number, statement) = services::statement_of(&file, place);
         let Statement { days, litres, disconnected, v, y, charges } = statement;
         lines += &format!("statement {place} {number} {days} {litres} {disconnected} {v} {y} ");
         lines += &format!("{}\n", four(&charges));

@@ -158,12 +158,17 @@ impl Reader<'_> {
     }
 
     fn header(&mut self) -> Result<Record, Breach> {
-        let record = self.next(&HEADER)?;
+        // the version says how long the header is, and stands at the same bits
+        // in either
+        let version = self.cursor.ahead(16, 4);
+        let record = self.next(header(version))?;
         self.rule(3, "mark", record.get("mark") == MARK, "not hexadecimal 5753, which is 22355")?;
-        self.rule(3, "version", record.get("version") == VERSION, "not 1")?;
+        // "version 4-bit values other than 1 and 2 are still number 3"
+        let known = [VERSION_1, VERSION_2].contains(&version);
+        self.rule(3, "version", known, "neither 1 nor 2")?;
         self.range(&record, "year", 2020, 2098)?;
         self.range(&record, "bands", 1, 24)?;
-        self.range(&record, "points", 1, 64)?;
+        self.range(&record, "points", 1, most_points(version))?;
         // "cp per pound, 0 to 10,000; 0 in a water file"
         let most = if record.is_set("service") { 10_000 } else { 0 };
         self.range(&record, "property", 0, most)?;

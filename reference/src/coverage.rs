@@ -1,13 +1,15 @@
-//! What files bring up: which rules an accepted file exercises, and which
-//! limits of the fields are reached.
+//! What files bring up: which versions and counts of points, which rules an
+//! accepted file exercises, and which limits of the fields are reached.
 
 use std::collections::{BTreeMap, BTreeSet};
 
+use crate::bits::Cursor;
 use crate::calendar::{days_in_year, first_april};
 use crate::charges::{band_serving, Fraction};
 use crate::days::{charged_days, is_meter_day, ChargedDay};
 use crate::file::*;
 use crate::litres::{advance, of_meter};
+use crate::services::accept;
 use crate::settlement::{exact, figures, free_and_threshold, providers, statement, Exact};
 
 /// Names of what has come up.
@@ -51,7 +53,6 @@ fn note_file(seen: &mut Seen, file: &File) {
     seen.note("year of 365 days", days_in_year(header.year) == 365);
     seen.note("year of 366 days", days_in_year(header.year) == 366);
     seen.note("24 bands", file.bands.len() == 24);
-    seen.note("64 points", file.points.len() == 64);
     seen.note("no rows", providers == 0);
     seen.note("64 rows", providers == 64);
     seen.note("a provider at two points", is_shared(file));
@@ -294,11 +295,89 @@ impl Limits {
     }
 }
 
+/// What the headers of files tell, of accepted and refused ones.
+#[derive(Default)]
+pub struct Headers {
+    /// How many files have each version and count of points, and how many of
+    /// those are accepted.
+    pub told: BTreeMap<String, (usize, usize)>,
+    /// How many files are refused under their version and not under another.
+    pub mistaken: BTreeMap<String, usize>,
+}
+
+impl Headers {
+    pub fn note(&mut self, bytes: &[u8]) {
+        let is_accepted = accept(bytes).is_ok();
+        if let Some(name) = version_and_points(bytes) {
+            let (files, accepted) = self.told.entry(name).or_default();
+            *files += 1;
+            *accepted += usize::from(is_accepted);
+        }
+        if is_accepted {
+            return;
+        }
+        if let Some(name) = mistaken_version(bytes) {
+            *self.mistaken.entry(name).or_default() += 1;
+        }
+    }
+
+    pub fn lines(&self) -> String {
+        let told = self.told.iter().map(|(name, (files, accepted))| {
+            format!("header {name}: {files}, accepted {accepted}\n")
+        });
+        let mistaken =
+            self.mistaken.iter().map(|(name, files)| format!("header {name}: {files}\n"));
+        told.chain(mistaken).collect()
+    }
+}
+
+/// The version and the count of points; none where the header lacks bits or has
+/// another mark.
+fn version_and_points(bytes: &[u8]) -> Option<String> {
+    let mut cursor = Cursor::new(bytes);
+    let record = cursor.record(header(cursor.ahead(16, 4)))?;
+    let version = record.get("version");
+    let limits: &[u64] = match version {
+        _ if record.get("mark") != MARK => return None,
+        VERSION_1 => &[0, 1, 64, 65, 127],
+        VERSION_2 => &[0, 1, 64, 65, 255, 256, 257, 511],
+        _ => return Some(version_part(version)),
+    };
+    Some(format!("{}, points {}", version_part(version), part(limits, record.get("points"))))
+}
+
+/// The version, and another one under which the file breaks none of 1 to 13.
+fn mistaken_version(bytes: &[u8]) -> Option<String> {
+    // its four bits come after the mark's two bytes
+    let (version, rest) = (bytes.get(2)? >> 4, bytes[2] & 15);
+    let is_right = |other: &u8| {
+        let under_other = [&bytes[..2], &[other << 4 | rest], &bytes[3..]].concat();
+        *other != version && accept(&under_other).is_ok()
+    };
+    let right = [1, 2].into_iter().find(is_right)?;
+    Some(format!("{} in a file of version {right}", version_part(u64::from(version))))
+}
+
+fn version_part(version: u64) -> String {
+    format!("version {}", part(&[0, 1, 2, 3, 15], version))
+}
+
+/// A value that is one of the limits, or the gap between two where it lies.
+fn part(limits: &[u64], value: u64) -> String {
+    let below = limits.iter().rfind(|limit| **limit <= value).expect("the least is 0");
+    match limits.iter().find(|limit| **limit > value) {
+        Some(above) if *below != value => format!("{} to {}", below + 1, above - 1),
+        _ => value.to_string(),
+    }
+}
+
 /// What many files bring up together.
 #[derive(Default)]
 pub struct Coverage {
     /// How many files have each first breach of 0 to 13.
     pub numbers: BTreeMap<u32, usize>,
+    /// The versions and counts of points.
+    pub headers: Headers,
     /// How many accepted files exercise each rule.
     pub rules: BTreeMap<&'static str, usize>,
     /// The limits of fields reached by accepted files.
@@ -306,8 +385,9 @@ pub struct Coverage {
 }
 
 impl Coverage {
-    pub fn note(&mut self, outcome: Result<File, u32>) {
-        match outcome {
+    pub fn note(&mut self, bytes: &[u8]) {
+        self.headers.note(bytes);
+        match accept(bytes) {
             Err(number) => *self.numbers.entry(number).or_default() += 1,
             Ok(file) => {
                 *self.numbers.entry(0).or_default() += 1;
@@ -324,6 +404,7 @@ impl Coverage {
         for (number, files) in &self.numbers {
             lines += &format!("number {number}: {files}\n");
         }
+        lines += &self.headers.lines();
         for (rule, files) in &self.rules {
             lines += &format!("rule {rule}: {files}\n");
         }

@@ -7,7 +7,9 @@ use crate::layout::*;
 /// "mark 16 (hexadecimal 5753)"
 pub const MARK: u64 = 0x5753;
 /// "version 4 (1)"
-pub const VERSION: u64 = 1;
+pub const VERSION_1: u64 = 1;
+/// "Version 2 of the file widens the point count".
+pub const VERSION_2: u64 = 2;
 /// "65,535 means none and stands only for disconnection and removal."
 pub const NONE: u64 = 65_535;
 /// "A day is 0 to 65,534".
@@ -41,7 +43,7 @@ pub struct Header {
 impl Default for Header {
     /// A header without prices and rates.
     fn default() -> Header {
-        let (mark, version) = (MARK, VERSION);
+        let (mark, version) = (MARK, VERSION_1);
         let (sewerage, year) = (false, 2020);
         let (property, roads, capacity, standard) = (0, 0, 0, 0);
         Header { mark, version, sewerage, year, property, roads, capacity, standard }
@@ -120,6 +122,23 @@ pub struct Read {
     pub value: u64,
 }
 
+/// The header of a version. One that is neither 1 nor 2 is refused by 3
+/// whatever follows, and is laid out as version 1: either takes 14 bytes.
+pub fn header(version: u64) -> &'static Layout {
+    match version {
+        VERSION_2 => &HEADER_2,
+        _ => &HEADER_1,
+    }
+}
+
+/// The most points of a version: "points 7 (1 to 64)"; "9 bits (1 to 256)".
+pub fn most_points(version: u64) -> u64 {
+    match version {
+        VERSION_2 => 256,
+        _ => 64,
+    }
+}
+
 fn count<T>(list: &[T]) -> u64 {
     list.len() as u64
 }
@@ -166,7 +185,7 @@ impl Header {
         let (bands, points) = (count(bands), count(points));
         let values =
             vec![mark, version, service, year, bands, points, property, roads, capacity, standard];
-        Record::new(&HEADER, values)
+        Record::new(header(version), values)
     }
 }
 

@@ -30,6 +30,13 @@ const fn field(name: &'static str, width: u32, kind: Kind) -> Field {
     Field { name, width, kind }
 }
 
+impl Field {
+    /// The most that its bits can hold.
+    pub fn widest(&self) -> u64 {
+        (1 << self.width) - 1
+    }
+}
+
 #[derive(Debug, PartialEq, Eq)]
 pub struct Layout {
     pub keyword: &'static str,
@@ -40,23 +47,29 @@ pub struct Layout {
 
 /// "Header: mark 16 (hexadecimal 5753), version 4 (1), service 1 (0 water,
 /// 1 sewerage), year 12, bands 5, points 7, property price 14 and roads price
-/// 14, capacity rate 17 and standard rate 17"
-pub static HEADER: Layout = Layout {
-    keyword: "header",
-    depth: 0,
-    fields: &[
+/// 14, capacity rate 17 and standard rate 17". The count of points has the
+/// given width.
+const fn header_fields(points: u32) -> [Field; 10] {
+    [
         field("mark", 16, Kind::Mark),
         field("version", 4, Kind::Version),
         field("service", 1, Kind::Service),
         field("year", 12, Kind::Number),
         field("bands", 5, Kind::Count),
-        field("points", 7, Kind::Count),
+        field("points", points, Kind::Count),
         field("property", 14, Kind::Number),
         field("roads", 14, Kind::Number),
         field("capacity", 17, Kind::Number),
         field("standard", 17, Kind::Number),
-    ],
-};
+    ]
+}
+
+/// The header of version 1.
+pub static HEADER_1: Layout = Layout { keyword: "header", depth: 0, fields: &header_fields(7) };
+
+/// "Version 2 of the file widens the point count to 9 bits (1 to 256); later
+/// fields move by two bits."
+pub static HEADER_2: Layout = Layout { keyword: "header", depth: 0, fields: &header_fields(9) };
 
 /// "Band: size 16 in mm, annual charge 30, free allowance 20, threshold 24"
 pub static BAND: Layout = Layout {
@@ -145,6 +158,10 @@ impl Layout {
     pub fn place_of(&self, name: &str) -> usize {
         let place = self.fields.iter().position(|field| field.name == name);
         place.unwrap_or_else(|| panic!("a {} has no field {name}", self.keyword))
+    }
+
+    pub fn field(&self, name: &str) -> &Field {
+        &self.fields[self.place_of(name)]
     }
 
     /// How many bits of the record stand before the named field.

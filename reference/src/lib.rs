@@ -1,5 +1,6 @@
-//! The second implementation of document 01, written to be compared with the
-//! first: plain rather than clever. Words in quotation marks are the paper's.
+//! The second implementation of document 01 and of requests of document 02,
+//! written to be compared with the first: plain rather than clever. Words in
+//! quotation marks are the papers'.
 
 pub mod bits;
 pub mod calendar;

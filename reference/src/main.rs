@@ -81,7 +81,7 @@ fn run(words: &[&str], output: &mut impl Write) -> Result<(), Failure> {
             let sort = sort_of(sort)?;
             let mut coverage = Coverage::default();
             each_seed(count, seed, |seed| {
-                coverage.note(services::accept(&random::file(sort, seed)));
+                coverage.note(&random::file(sort, seed));
                 Ok(())
             })?;
             put(coverage.lines().as_bytes())

@@ -44,12 +44,18 @@ pub fn rows(bytes: &[u8], table: &mut [Row]) -> (u32, usize) {
 
 /// "Statement: for a point's place in the file, from 0".
 pub fn statement(bytes: &[u8], place: usize) -> (u32, Statement) {
-    let file = match accept(bytes) {
+    statement_of(&accept(bytes), place)
+}
+
+/// The same of a file that is read already: who asks for all its places reads
+/// it once.
+pub fn statement_of(file: &Result<File, u32>, place: usize) -> (u32, Statement) {
+    let file = match file {
         Ok(file) => file,
-        Err(number) => return (number, Statement::default()),
+        Err(number) => return (*number, Statement::default()),
     };
     match file.points.get(place) {
-        Some(point) => (0, settlement::statement(&file, point)),
+        Some(point) => (0, settlement::statement(file, point)),
         // 15: "no point at that place"
         None => (15, Statement::default()),
     }

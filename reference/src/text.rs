@@ -17,9 +17,9 @@
 //! the meter above it; the counts in the file follow from the lines. A flag
 //! stands alone: named is 1, unnamed is 0. Values are decimal, or hexadecimal
 //! after `0x`; a day may be `none` (65535); the service is `water` or
-//! `sewerage`. The mark and the version may be left out. Values must fit the
-//! width of their fields, but need not obey document 01, so that most breaches
-//! can be written.
+//! `sewerage`. The mark and the version may be left out; the version is then 1.
+//! Values must fit the width of their fields, but need not obey the documents, so
+//! that most breaches can be written.
 
 use crate::file::*;
 use crate::layout::*;
@@ -55,13 +55,14 @@ pub fn parse(text: &str) -> Result<File, String> {
         let words = line.split('#').next().unwrap_or_default().split_whitespace();
         let words: Vec<&str> = words.collect();
         if let Some((keyword, words)) = words.split_first() {
-            headers += usize::from(*keyword == HEADER.keyword);
+            headers += usize::from(*keyword == HEADER_1.keyword);
             let added = add_record(&mut file, keyword, words);
             added.map_err(|error| format!("line {}: {keyword}: {error}", index + 1))?;
         }
     }
     match headers {
-        1 => Ok(file),
+        // only now is the version known, since the header may stand anywhere
+        1 => fits(file.points.len(), header(file.header.version), "points").map(|()| file),
         _ => Err(format!("{headers} header lines, where one is needed")),
     }
 }
@@ -69,12 +70,14 @@ pub fn parse(text: &str) -> Result<File, String> {
 fn add_record(file: &mut File, keyword: &str, words: &[&str]) -> Result<(), String> {
     match keyword {
         "header" => {
-            file.header = Header::of(&parse_record(&HEADER, words)?);
+            // both versions have the same fields
+            file.header = Header::of(&parse_record(&HEADER_1, words)?);
             Ok(())
         }
-        "band" => push(&mut file.bands, Band::of(&parse_record(&BAND, words)?), &HEADER, "bands"),
+        "band" => push(&mut file.bands, Band::of(&parse_record(&BAND, words)?), &HEADER_1, "bands"),
         "point" => {
-            push(&mut file.points, Point::of(&parse_record(&POINT, words)?), &HEADER, "points")
+            file.points.push(Point::of(&parse_record(&POINT, words)?));
+            Ok(())
         }
         "transfer" | "condition" | "meter" | "read" => {
             let point = file.points.last_mut().ok_or("no point above it")?;
@@ -108,8 +111,13 @@ fn add_to_point(point: &mut Point, keyword: &str, words: &[&str]) -> Result<(), 
 /// Adds to a list, whose length must fit its count in the record above.
 fn push<T>(list: &mut Vec<T>, item: T, above: &Layout, count: &str) -> Result<(), String> {
     list.push(item);
-    let width = above.fields[above.place_of(count)].width;
-    match list.len() >> width {
+    fits(list.len(), above, count)
+}
+
+/// Whether a count can tell that many.
+fn fits(length: usize, above: &Layout, count: &str) -> Result<(), String> {
+    let width = above.field(count).width;
+    match length >> width {
         0 => Ok(()),
         _ => Err(format!("more {count} than a count of {width} bits can tell")),
     }
@@ -143,7 +151,7 @@ fn parse_record(layout: &'static Layout, words: &[&str]) -> Result<Record, Strin
 fn unsaid(field: &Field) -> Result<u64, String> {
     match field.kind {
         Kind::Mark => Ok(MARK),
-        Kind::Version => Ok(VERSION),
+        Kind::Version => Ok(VERSION_1),
         Kind::Count | Kind::Flag => Ok(0),
         _ => Err(format!("{} is missing", field.name)),
     }

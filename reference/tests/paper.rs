@@ -1,14 +1,15 @@
 //! The worked example, the fifteen small inputs of the breach table, the
-//! twelve marked examples and the other sentences of document 01 that can be
-//! tried one by one.
+//! twelve marked examples and the other sentences of document 01, and of the
+//! requests of document 02, that can be tried one by one.
 
 use reference::bits;
 use reference::calendar::{days_in_year, first_april};
+use reference::cases::{self, Case};
 use reference::charges::{band_serving, drainage, meter, shares, year_cost, Fraction};
 use reference::check::{check, decode};
 use reference::days::charged_days;
 use reference::explain::explain;
-use reference::file::{Band, File, Read, Transfer};
+use reference::file::{Band, File, Point, Read, Transfer};
 use reference::layout::Record;
 use reference::litres::{advance, carried};
 use reference::services;
@@ -99,19 +100,29 @@ fn sewerage_is_named() {
     assert_eq!(report, REPORT.replace("Service:,Water,,", "Service:,Sewerage,,"));
 }
 
-/// The bytes of the example, packed by hand from the list of fields.
+/// The bytes of the example, packed by hand from the list of fields, in both
+/// versions.
 #[test]
 fn bytes_of_the_example() {
+    assert_eq!(example().to_bytes(), packed("1:4 0:1 2021:12 1:5 1:7"));
+    let wide = changed("header", "header version 2");
+    assert_eq!(file_of(&wide).to_bytes(), packed("2:4 0:1 2021:12 1:5 1:9"));
+}
+
+/// The example's fields, with those of the header from the version up to the
+/// count of points as told.
+fn packed(header: &str) -> Vec<u8> {
     // value and width of the header, the band, the point, two transfers, the
     // meter, two reads
-    let fields = "22355:16 1:4 0:1 2021:12 1:5 1:7 0:14 0:14 2000:17 1000:17
+    let fields = "22355:16 HEADER 0:14 0:14 2000:17 1000:17
         20:16 365000:30 0:20 100:24
         7:32 7000:16 65535:16 2:5 0:6 1:5
         7000:16 3:16
         7861:16 2:16
         20:16 100:7 100:7 5:4 7000:16 65535:16 2:6
         7761:16 0:1 99900:27
-        8126:16 1:1 265:27";
+        8126:16 1:1 265:27"
+        .replace("HEADER", header);
     let mut bits = String::new();
     for field in fields.split_whitespace() {
         let (value, width) = field.split_once(':').unwrap();
@@ -122,7 +133,7 @@ fn bytes_of_the_example() {
         bits.push('0');
     }
     let bytes = (0..bits.len() / 8).map(|at| u8::from_str_radix(&bits[at * 8..at * 8 + 8], 2));
-    assert_eq!(example().to_bytes(), bytes.map(Result::unwrap).collect::<Vec<u8>>());
+    bytes.map(Result::unwrap).collect()
 }
 
 /// A water file for 2021 with one point connected on day 100 or as told, and
@@ -177,9 +188,76 @@ fn breach_3() {
     // a header of 107 bits takes 14 bytes, and lacking bits comes before
     assert_eq!(refused(&bytes[..13]), 2);
     assert_eq!(refused(&bytes[..14]), 3);
-    for version in (0..16).filter(|version| *version != 1) {
+    for version in (0..16).filter(|version| ![1, 2].contains(version)) {
         let header = format!("header version {version}");
         assert_eq!(breach_after("header", &header), 3);
+        // whatever follows, in the 14 bytes that a header of either version takes
+        let unknown = [&[0x57, 0x53, version << 4 | 15][..], &[255; 11]].concat();
+        assert_eq!((refused(&unknown[..13]), refused(&unknown)), (2, 3));
+    }
+}
+
+/// The example with so many points, in a version.
+fn with_points(version: u64, count: u64) -> File {
+    let mut file = file_of(&changed("header", &format!("header version {version}")));
+    let point = file.points.remove(0);
+    file.points.extend((0..count).map(|number| Point { number, ..point.clone() }));
+    file
+}
+
+/// "Version 2 of the file widens the point count to 9 bits (1 to 256)";
+/// "Version 1 files are read as before".
+#[test]
+fn points_of_a_version() {
+    for (version, most, countable) in [(1, 64, 127), (2, 256, 511)] {
+        let number = |count: u64| check(&with_points(version, count).to_bytes());
+        assert_eq!([0, 1, 64, most].map(number), [4, 0, 0, 0]);
+        assert_eq!([most + 1, most + 2, countable].map(number), [4, 4, 4]);
+    }
+    assert_eq!(check(&with_points(2, 65).to_bytes()), 0);
+}
+
+/// Every point has its statement and its days in the rows, also after the 64th.
+#[test]
+fn a_park_of_256_points() {
+    let file = with_points(2, 256);
+    let bytes = file.to_bytes();
+    let alone = services::statement(&example().to_bytes(), 0);
+    for place in 0..256 {
+        assert_eq!(services::statement(&bytes, place), alone);
+    }
+    assert_eq!(services::statement(&bytes, 256), (15, Statement::default()));
+    let days: Vec<u64> = rows(&file).iter().map(|row| row.days).collect();
+    assert_eq!(days, [256 * 265, 256 * 100]);
+    let lines = cases::lines(0, &Case { file: bytes, entries: 2, space: 0 });
+    assert_eq!(lines.lines().filter(|line| line.starts_with("statement ")).count(), 257);
+}
+
+/// "later fields move by two bits": each still has its range, and its value.
+#[test]
+fn a_file_of_version_2() {
+    let text = changed("header", "header version 2");
+    let bytes = file_of(&text).to_bytes();
+    assert_eq!(decode(&bytes), Ok(file_of(&text)));
+    assert_eq!(services::report_program(&bytes), REPORT.as_bytes());
+    let of_version_1 = services::statement(&example().to_bytes(), 0);
+    assert_eq!(services::statement(&bytes, 0), of_version_1);
+    for length in 0..bytes.len() {
+        assert_eq!(refused(&bytes[..length]), 2, "{length}");
+    }
+    // 503 bits are read; the one after them is padding
+    assert_eq!(refused(&[&bytes[..62], &[bytes[62] | 1]].concat()), 12);
+    assert_eq!(refused(&[&bytes[..], &[0]].concat()), 12);
+    for (from, to) in [
+        ("year 2021", "year 2019"),
+        ("property 0", "property 1"),
+        ("roads 0", "roads 1"),
+        ("capacity 2000", "capacity 100001"),
+        ("standard 1000", "standard 100001"),
+        ("size 20 annual", "size 0 annual"),
+        ("digits 5", "digits 3"),
+    ] {
+        assert_eq!(refused(&file_of(&text.replace(from, to)).to_bytes()), 4, "{to}");
     }
 }
 
@@ -809,6 +887,11 @@ fn explain_names_record_bit_and_rule() {
     assert!(lines[lines.len() - 2].starts_with("# refused, number 5: band sizes, point numbers,"));
     let last = |bytes: &[u8]| explain(bytes).lines().last().unwrap().to_string();
     assert_eq!(last(&[0x57; 13]), "# header at bit 0: 107 bits needed, 104 left");
+    assert_eq!(last(&[0x57, 0x53, 0x2f]), "# header at bit 0: 109 bits needed, 24 left");
+    let header = [&[0x57, 0x53, 0x3f][..], &[0; 11]].concat();
+    assert_eq!(last(&header), "# header at bit 16: version 3: neither 1 nor 2");
+    let points = with_points(2, 257).to_bytes();
+    assert_eq!(last(&points), "# header at bit 38: points 257: outside its range, 1 to 256");
     let bytes = example().to_bytes();
     assert_eq!(last(&bytes[..24]), "# band 0 at bit 107: 90 bits needed, 85 left");
     let transfer = "# point 0 transfer 1 at bit 309: 32 bits needed, 27 left";
@@ -838,6 +921,11 @@ fn explain_shows_figures() {
     assert!(
         words.contains("V 365000, F 0, T 100000, Y 465000\n#   charges [365000, 465000, 0, 0]\n")
     );
+    let wide = explain(&file_of(&changed("header", "header version 2")).to_bytes());
+    let header = "header mark 0x5753 version 2 service water year 2021 property 0 roads 0 \
+                  capacity 2000 standard 1000 # bit 0, bands 1, points 1\n\
+                  band size 20 annual 365000 allowance 0 threshold 100 # bit 109\n";
+    assert!(wide.starts_with(header), "{wide}");
     let provider = "#   provider 2: days 265, litres 265000, charges [265000, 337602, 0, 0] of ";
     assert!(words.contains(provider));
 }

@@ -7,7 +7,7 @@ use std::collections::{BTreeMap, BTreeSet};
 
 use reference::cases::{lines, read_case, write_case, Case};
 use reference::check::{check, decode};
-use reference::coverage::Coverage;
+use reference::coverage::{Coverage, Headers};
 use reference::explain::explain;
 use reference::file::{File, MOST_BYTES};
 use reference::random::{self, other_transfers, small, valid, Rng, Sort, SMALL};
@@ -87,8 +87,7 @@ fn oracle_agrees_on_settlement() {
     for (bytes, file) in accepted(300, 3_000) {
         let owed = oracle::owed(&oracle::books(&bytes).unwrap());
         assert_eq!(owed.len(), file.points.len());
-        for (place, owed) in owed.iter().enumerate() {
-            let point = &file.points[place];
+        for (point, owed) in file.points.iter().zip(&owed) {
             let by_oracle = Statement {
                 days: owed.days as u64,
                 litres: owed.litres,
@@ -97,7 +96,7 @@ fn oracle_agrees_on_settlement() {
                 y: owed.y,
                 charges: owed.charges.map(floor),
             };
-            assert_eq!(services::statement(&bytes, place), (0, by_oracle));
+            assert_eq!(statement(&file, point), by_oracle);
             assert_eq!(figures(&file, point), running_floors(owed));
         }
     }
@@ -205,16 +204,15 @@ fn rows_are_sums() {
 #[test]
 fn transfers_leave_statements_alone() {
     let mut differing = 0;
-    for (seed, (bytes, file)) in accepted(300, 1_000).into_iter().enumerate() {
+    for (seed, (_, file)) in accepted(300, 1_000).into_iter().enumerate() {
         let other = other_transfers(&mut Rng::new(seed as u64), &file);
         let other_bytes = other.to_bytes();
         if other_bytes.len() > MOST_BYTES {
             continue;
         }
-        assert!(accept(&other_bytes).is_ok());
-        for (place, (one, two)) in file.points.iter().zip(&other.points).enumerate() {
-            let same = services::statement(&bytes, place);
-            assert_eq!(services::statement(&other_bytes, place), same);
+        assert_eq!(accept(&other_bytes), Ok(other.clone()));
+        for (one, two) in file.points.iter().zip(&other.points) {
+            assert_eq!(statement(&file, one), statement(&other, two));
             differing += usize::from(figures(&file, one) != figures(&other, two));
         }
     }
@@ -283,18 +281,17 @@ fn refused_files_are_explained() {
 
 fn coverage(sort: Sort, seeds: u64) -> Coverage {
     let mut coverage = Coverage::default();
-    (0..seeds).for_each(|seed| coverage.note(accept(&random::file(sort, seed))));
+    (0..seeds).for_each(|seed| coverage.note(&random::file(sort, seed)));
     coverage
 }
 
 /// The rules that only long lists bring up.
-const LONG: [&str; 8] = [
+const LONG: [&str; 7] = [
     "16 meters",
     "24 bands",
     "24 transfers",
     "40 reads",
     "48 conditions",
-    "64 points",
     "64 rows",
     "65,536 bytes",
 ];
@@ -312,6 +309,46 @@ fn every_number_rule_and_limit_comes_up() {
     }
     assert_eq!(coverage.rules.len(), include_str!("rules.txt").lines().count());
     assert_eq!(coverage.limits.lines(), include_str!("limits.txt"));
+}
+
+/// Half of the files of every sort are of version 2.
+#[test]
+fn both_versions_in_every_sort() {
+    for sort in SORTS {
+        let files = (0..1_000).map(|seed| random::file(sort, seed));
+        let second = files.filter(|bytes| bytes.get(2).is_some_and(|byte| byte >> 4 == 2)).count();
+        assert!((400..600).contains(&second), "{sort:?}: {second}");
+    }
+}
+
+/// The limits of the points' count in both versions, and among the refused
+/// files those past them, and the wrong versions over the bits of either.
+#[test]
+fn versions_and_counts_come_up() {
+    let mut headers = Headers::default();
+    for sort in [Sort::Any, Sort::Small, Sort::Twice, Sort::Spliced] {
+        (0..3_000).for_each(|seed| headers.note(&random::file(sort, seed)));
+    }
+    let told = |name: &str| headers.told.get(name).copied().unwrap_or_default();
+    for (version, counts) in [("1", "1 64"), ("2", "1 64 65 255 256")] {
+        for count in counts.split(' ') {
+            let (_, accepted) = told(&format!("version {version}, points {count}"));
+            assert!(accepted >= 5, "version {version}, points {count}: {accepted}");
+        }
+    }
+    for (version, counts) in [("1", "0 65 127"), ("2", "0 257 511")] {
+        for count in counts.split(' ') {
+            let (files, accepted) = told(&format!("version {version}, points {count}"));
+            assert!(files >= 5 && accepted == 0, "version {version}, points {count}: {files}");
+        }
+    }
+    for (right, wrong) in [(1, "0 2 3 15"), (2, "0 1 3 15")] {
+        for version in wrong.split(' ').chain(["4 to 14"]) {
+            let name = format!("version {version} in a file of version {right}");
+            let files = headers.mistaken.get(&name).copied().unwrap_or_default();
+            assert!(files >= 5, "{name}: {files}");
+        }
+    }
 }
 
 #[test]

@@ -24,18 +24,20 @@ pub fn header(file: &[u8]) -> Result<(Header, Cursor<'_>), u32> {
     if file.len() > 65_536 {
         return Err(1);
     }
-    let mut cursor = Cursor { file, at: 0 };
-    if cursor.left() < HEADER {
+    if file.len() < HEADER_BYTES {
         return Err(2);
     }
-    let header = cursor.header();
-    if header.mark != 0x5753 || header.version != 1 {
+    let mut cursor = Cursor { file, at: 0 };
+    let (mark, version) = cursor.mark_and_version();
+    if mark != 0x5753 {
         return Err(3);
     }
+    let form = Form::of(version).ok_or(3_u32)?;
+    let header = cursor.header(&form);
     let price = if header.sewerage { 10_000 } else { 0 };
     if !(2020..=2098).contains(&header.year)
         || !(1..=24).contains(&header.bands)
-        || !(1..=64).contains(&header.points)
+        || !(1..=form.most_points).contains(&header.points)
         || header.property > price
         || header.roads > price
         || header.capacity > 100_000

@@ -3,8 +3,8 @@
 
 pub const NONE: u64 = 65_535;
 
-/// The bits of a record.
-pub const HEADER: usize = 107;
+/// The bits of a record; of a header, without its count of points.
+const HEADER: usize = 100;
 pub const BAND: usize = 90;
 pub const POINT: usize = 80;
 pub const TRANSFER: usize = 32;
@@ -12,11 +12,32 @@ pub const CONDITION: usize = 72;
 pub const METER: usize = 72;
 pub const READ: usize = 44;
 
-/// A header; its mark and version are judged where it is read.
+/// The bytes of a header, whichever width its count has.
+pub const HEADER_BYTES: usize = 14;
+
+/// What a version says of the layout.
+#[derive(Clone, Copy)]
+pub struct Form {
+    /// The bits of the count of points.
+    pub width: u32,
+    pub most_points: u64,
+}
+
+impl Form {
+    /// None of a version that there is not.
+    #[inline(always)]
+    pub fn of(version: u64) -> Option<Form> {
+        match version {
+            1 => Some(Form { width: 7, most_points: 64 }),
+            2 => Some(Form { width: 9, most_points: 256 }),
+            _ => None,
+        }
+    }
+}
+
+/// A header without its mark and version.
 #[derive(Clone, Copy)]
 pub struct Header {
-    pub mark: u64,
-    pub version: u64,
     pub sewerage: bool,
     pub year: u64,
     pub bands: u64,
@@ -148,21 +169,29 @@ impl Cursor<'_> {
         self.file.len() * 8 - self.at
     }
 
+    /// The mark and the version, which are in front in every version.
     #[inline(always)]
-    pub fn header(&mut self) -> Header {
-        let (one, two, three, four) = (self.bits(0), self.bits(45), self.bits(73), self.bits(90));
-        self.at += HEADER;
+    pub fn mark_and_version(&self) -> (u64, u64) {
+        let bits = self.bits(0);
+        (field(bits, 0, 16), field(bits, 16, 4))
+    }
+
+    /// Read once a file, and so kept out of the way of what is done with every
+    /// record.
+    #[inline(never)]
+    pub fn header(&mut self, form: &Form) -> Header {
+        let width = form.width as usize;
+        let (one, two, three) = (self.bits(0), self.bits(38 + width), self.bits(66 + width));
+        self.at += HEADER + width;
         Header {
-            mark: field(one, 0, 16),
-            version: field(one, 16, 4),
             sewerage: field(one, 20, 1) == 1,
             year: field(one, 21, 12),
             bands: field(one, 33, 5),
-            points: field(one, 38, 7),
+            points: field(one, 38, form.width),
             property: field(two, 0, 14),
             roads: field(two, 14, 14),
             capacity: field(three, 0, 17),
-            standard: field(four, 0, 17),
+            standard: field(three, 17, 17),
         }
     }
 

@@ -124,8 +124,9 @@ fn wrong_count(rng: &mut Rng, records: &mut [Record]) -> bool {
     let counts = record.layout.fields.iter().filter(|field| field.kind == Kind::Count);
     let counts: Vec<&Field> = counts.collect();
     let field = *rng.pick(&counts);
-    let (count, most) = (record.get(field.name), (1 << field.width) - 1);
-    let wrong = if rng.one_in(2) { count.saturating_sub(1) } else { (count + 1).min(most) };
+    let count = record.get(field.name);
+    let wrong =
+        if rng.one_in(2) { count.saturating_sub(1) } else { (count + 1).min(field.widest()) };
     record.set(field.name, wrong);
     true
 }
@@ -133,20 +134,37 @@ fn wrong_count(rng: &mut Rng, records: &mut [Record]) -> bool {
 fn mark_or_version(rng: &mut Rng, records: &mut [Record]) -> bool {
     match rng.below(2) {
         0 => records[0].set("mark", MARK ^ 1 << rng.below(16)),
-        _ => records[0].set("version", VERSION ^ 1 << rng.below(4)),
+        _ => {
+            let version = other_version(rng, records[0].get("version"));
+            records[0].set("version", version);
+        }
     }
     true
+}
+
+/// Another version over the same bits: one that there is not, or the other one,
+/// whose later fields stand two bits further on or back.
+fn other_version(rng: &mut Rng, version: u64) -> u64 {
+    match rng.below(5) {
+        0 => 0,
+        1 => 3,
+        2 => 15,
+        3 => rng.between(4, 14),
+        _ if version == VERSION_1 => VERSION_2,
+        _ => VERSION_1,
+    }
 }
 
 /// The range of a field, where it is narrower than its width.
 fn range(records: &[Record], place: usize, name: &str) -> Option<(u64, u64)> {
     let record = &records[place];
     let sewerage = records[0].is_set("service");
+    let version = records[0].get("version");
     let price = if sewerage { 10_000 } else { 0 };
     Some(match (record.layout.keyword, name) {
         ("header", "year") => (2020, 2098),
         ("header", "bands") => (1, 24),
-        ("header", "points") => (1, 64),
+        ("header", "points") => (1, most_points(version)),
         ("header", "property" | "roads") => (0, price),
         ("header", "capacity" | "standard") => (0, 100_000),
         ("band", "size") => (1, 65_535),
@@ -177,7 +195,7 @@ fn range(records: &[Record], place: usize, name: &str) -> Option<(u64, u64)> {
 /// A value outside the field's range.
 fn outside(rng: &mut Rng, records: &[Record], place: usize, field: &Field) -> Option<u64> {
     let (least, most) = range(records, place, field.name)?;
-    let widest = (1 << field.width) - 1;
+    let widest = field.widest();
     match (least > 0, most < widest) {
         (true, true) if rng.one_in(2) => Some(rng.field(0, least - 1)),
         (_, true) => Some(rng.field(most + 1, widest)),
@@ -186,16 +204,20 @@ fn outside(rng: &mut Rng, records: &[Record], place: usize, field: &Field) -> Op
     }
 }
 
-/// A field of any record, each kind of record as often, out of its range.
+/// A field of any record, each kind of record as often, out of its range; of
+/// eight, one time the count of points, whose range is the version's.
 fn out_of_range(rng: &mut Rng, records: &mut [Record]) -> bool {
-    let layouts = [&HEADER, &BAND, &POINT, &TRANSFER, &CONDITION, &METER, &READ];
-    let layout = *rng.pick(&layouts);
+    let header = records[0].layout;
+    let layouts = [header, &BAND, &POINT, &TRANSFER, &CONDITION, &METER, &READ];
+    let (layout, field) = if rng.one_in(8) {
+        (header, header.field("points"))
+    } else {
+        let layout = *rng.pick(&layouts);
+        (layout, rng.pick(layout.fields))
+    };
     let Some(place) = any(rng, records, |_, record| is_a(record, layout)) else { return false };
-    let field = rng.pick(layout.fields);
-    match outside(rng, records, place, field) {
-        Some(value) => records[place].set(field.name, value),
-        None => return false,
-    }
+    let Some(value) = outside(rng, records, place, field) else { return false };
+    records[place].set(field.name, value);
     true
 }
 
@@ -327,7 +349,7 @@ fn scramble(rng: &mut Rng, records: &mut [Record], place: usize) {
 }
 
 fn scrambled(rng: &mut Rng, records: &[Record], place: usize, field: &Field) -> u64 {
-    let widest = (1 << field.width) - 1;
+    let widest = field.widest();
     let own = records[place].get(field.name);
     let compared = compared(records, place, field);
     match rng.below(5) {

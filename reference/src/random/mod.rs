@@ -6,7 +6,7 @@ mod splice;
 mod valid;
 
 pub use rng::Rng;
-pub use valid::{crowded, other_transfers, small, valid, SMALL};
+pub use valid::{crowded, other_transfers, small, valid, wide, SMALL};
 
 use crate::cases::Case;
 use crate::report;
@@ -59,7 +59,11 @@ pub fn file(sort: Sort, seed: u64) -> Vec<u8> {
             }
         }
         Sort::Twice => {
-            let file = if rng.one_in(6) { crowded(rng) } else { small(rng) };
+            let file = match rng.below(60) {
+                0..=9 => crowded(rng),
+                10 => wide(rng),
+                _ => small(rng),
+            };
             damage::twice(rng, &file)
         }
         Sort::Spliced => splice::spliced(rng),

@@ -50,19 +50,27 @@ fn some(rng: &mut Rng) -> File {
     }
 }
 
-/// Some first points of one and some last of the other, under one's header
-/// and bands; their numbers anew or as they were.
+/// Some first points of one and some last of the other, or all of both, under
+/// one's header and bands; their numbers anew or as they were.
 fn points(rng: &mut Rng, one: &File, other: &File) -> File {
     let mut file = one.clone();
-    file.points.truncate(rng.between(0, one.points.len() as u64) as usize);
-    let from = rng.below(other.points.len() as u64) as usize;
+    let mut from = 0;
+    if !rng.one_in(4) {
+        file.points.truncate(rng.between(0, one.points.len() as u64) as usize);
+        from = rng.below(other.points.len() as u64) as usize;
+    }
     file.points.extend_from_slice(&other.points[from..]);
-    // the field holds 127
-    file.points.truncate(127);
+    cut_to_count(&mut file);
     if !rng.one_in(3) {
         number_points(rng, &mut file.points);
     }
     file
+}
+
+/// Drops the points that the count cannot tell, in its 7 or 9 bits.
+fn cut_to_count(file: &mut File) {
+    let most = header(file.header.version).field("points").widest();
+    file.points.truncate(most as usize);
 }
 
 /// One's points with lists, or dates, of the other's points.
@@ -86,6 +94,7 @@ fn crossed(rng: &mut Rng, one: &File, other: &File) -> File {
     }
     if rng.one_in(4) {
         file.header = other.header.clone();
+        cut_to_count(&mut file);
     }
     file
 }

@@ -41,11 +41,12 @@ struct Window {
     to: u64,
 }
 
-fn most(rng: &mut Rng) -> Most {
+fn most(rng: &mut Rng, version: u64) -> Most {
     let bands = if rng.one_in(8) { 24 } else { 4 };
+    let many = if version == VERSION_2 { many_points(rng) } else { 64 };
     let (points, transfers, conditions, meters, reads) = match rng.below(16) {
-        0 => (64, 2, 2, 2, 4),
-        1 => (64, 24, 4, 1, 4),
+        0 => (many, 2, 2, 2, 4),
+        1 => (many, 24, 4, 1, 4),
         2 => (2, 24, 48, 16, 40),
         3 => (16, 24, 48, 16, 40),
         4 | 5 => (1, 24, 48, 4, 10),
@@ -54,6 +55,18 @@ fn most(rng: &mut Rng) -> Most {
         _ => (2, 3, 3, 2, 5),
     };
     Most { bands, points, transfers, conditions, meters, reads }
+}
+
+/// "9 bits (1 to 256)": the most of either version, one more or less, or any
+/// number between.
+fn many_points(rng: &mut Rng) -> u64 {
+    match rng.below(8) {
+        0 => 64,
+        1 => 65,
+        2 => 255,
+        3..=5 => 256,
+        _ => rng.between(66, 254),
+    }
 }
 
 fn small_most(rng: &mut Rng) -> Most {
@@ -132,12 +145,14 @@ impl Window {
 /// A valid file of at most 65,536 bytes.
 pub fn valid(rng: &mut Rng) -> File {
     let header = header(rng);
-    let most = most(rng);
+    let most = most(rng, header.version);
     let shape = Shape::new(rng, &header, most, false);
     let bands = bands(rng, &shape);
+    // 65 points of one provider each are more than version 1 has
+    let least_apiece = if header.version == VERSION_2 { 1 } else { 2 };
     let mut file = File { header, bands, points: Vec::new() };
     if rng.one_in(10) {
-        let (count, apiece) = (64 + rng.below(2), rng.between(2, 23));
+        let (count, apiece) = (64 + rng.below(2), rng.between(least_apiece, 23));
         crowd(rng, &shape, &mut file.points, count, apiece);
     } else {
         points(rng, &shape, &mut file.points);
@@ -152,13 +167,26 @@ pub fn valid(rng: &mut Rng) -> File {
 
 /// A valid file of at most 150 bytes, most often with few charged days.
 pub fn small(rng: &mut Rng) -> File {
-    let header = header(rng);
-    let most = small_most(rng);
+    let (header, most) = (header(rng), small_most(rng));
+    let mut file = brief(rng, header, most);
+    cut_to(&mut file, SMALL);
+    file
+}
+
+/// A file of version 2 with few records to a point, and up to 256 points.
+pub fn wide(rng: &mut Rng) -> File {
+    let header = Header { version: VERSION_2, ..header(rng) };
+    let points = many_points(rng);
+    let most = Most { bands: 1, points, transfers: 2, conditions: 1, meters: 1, reads: 2 };
+    brief(rng, header, most)
+}
+
+/// A file whose points most often have few charged days.
+fn brief(rng: &mut Rng, header: Header, most: Most) -> File {
     let shape = Shape::new(rng, &header, most, true);
     let bands = bands(rng, &shape);
     let mut file = File { header, bands, points: Vec::new() };
     points(rng, &shape, &mut file.points);
-    cut_to(&mut file, SMALL);
     number_points(rng, &mut file.points);
     file
 }
@@ -197,6 +225,7 @@ fn header(rng: &mut Rng) -> Header {
     let sewerage = rng.one_in(2);
     let price = if sewerage { 10_000 } else { 0 };
     Header {
+        version: if rng.one_in(2) { VERSION_1 } else { VERSION_2 },
         sewerage,
         // 2023, 2027 ... have 366 days
         year: if rng.one_in(4) { 2023 + 4 * rng.below(19) } else { rng.field(2020, 2098) },
@@ -298,7 +327,7 @@ fn transfers(
 /// The same file under other transfers: "alike except in transfers".
 pub fn other_transfers(rng: &mut Rng, file: &File) -> File {
     let mut other = file.clone();
-    let most = most(rng);
+    let most = most(rng, file.header.version);
     let shape = Shape::new(rng, &file.header, most, false);
     let window = shape.window(rng);
     let providers: Vec<u64> = (0..9).map(|_| rng.field(1, 65_535)).collect();
