@@ -55,7 +55,7 @@ fn passed_over(space: &mut [u8], count: usize) -> bool {
 
 // A case that was read into a space: whether there is one, how much of its file was kept, and what is to be lent, entries of a table and bytes of
 // report space.
-#[derive(Drop)]
+#[derive(Clone, Copy)]
 pub struct Case {
     pub there: bool,
     pub kept: usize,

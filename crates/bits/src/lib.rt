@@ -7,13 +7,13 @@ ghost use Rattle.bits.specs.CutOut.{CutOut};
 ghost use Rattle.bits.specs.Bytes.{Turned};
 
 // A position in a file, in bits.
-#[derive(Drop)]
+#[derive(Clone, Copy)]
 pub struct Cursor {
     pub at: usize,
 }
 
 // A field's value, and the cursor after it.
-#[derive(Drop)]
+#[derive(Clone, Copy)]
 pub struct Taken {
     pub value: u64,
     pub next: Cursor,

@@ -8,7 +8,7 @@ use exact::{greatest, least, past};
 use rules::{Day, Days};
 
 // So many days from one on. A point may have none.
-#[derive(Drop)]
+#[derive(Clone, Copy)]
 pub struct Charged {
     pub from: Day,
     pub count: Days,

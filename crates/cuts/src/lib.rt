@@ -13,7 +13,7 @@ use rules::Transfer;
 use spans::{earlier, set_span};
 
 // Where a point's transfers and conditions stand, and how many there are.
-#[derive(Drop)]
+#[derive(Clone, Copy)]
 pub struct Lists {
     pub transfers: Cursor,
     pub transfer_count: u64,
@@ -23,7 +23,7 @@ pub struct Lists {
 
 // The provider of the days before an entry, and the transfer ahead, which is read: so many are left with it. `next` is the cursor after it. Where
 // none is left, what stands behind the last was read, and is not asked for.
-#[derive(Drop)]
+#[derive(Clone, Copy)]
 struct Owning {
     provider: u64,
     end: usize,
@@ -34,7 +34,7 @@ struct Owning {
 
 // The condition of the days before an entry, and the one ahead, which is read: so many are left with it. `next` is the cursor after it. Where none is
 // left, what stands behind the last was read, and is not asked for.
-#[derive(Drop)]
+#[derive(Clone, Copy)]
 struct Holding {
     groups: Groups,
     end: usize,

@@ -4,7 +4,7 @@ ghost use Rattle.std.specs.Prelude.{◌≡◌, ◌+◌, ◌-◌, ◌*◌, ◌/�
 ghost use Rattle.exact.specs.Parts.{value, Of};
 
 // A number by a divisor: how often the divisor goes into it, and what is left.
-#[derive(Drop)]
+#[derive(Clone, Copy)]
 struct Parts {
     whole: u64,
     rest: u64,

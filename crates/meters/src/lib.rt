@@ -17,7 +17,7 @@ use rules::{Band, MeterHead, Read};
 use spans::{Figures, SpanDays, add_figures, add_litres, earlier, span_end, span_with};
 
 // So many litres from a day on, before another, of which `parts` ten-thousandths count: share × return.
-#[derive(Drop)]
+#[derive(Clone, Copy)]
 pub struct Advance {
     pub litres: u64,
     pub parts: u64,
@@ -192,14 +192,14 @@ fn on_all_days(days: SpanDays, from: usize, to: usize) -> bool
 }
 
 // Where a tariff's bands begin, and how many there are.
-#[derive(Drop)]
+#[derive(Clone, Copy)]
 pub struct Bands {
     pub first: Cursor,
     pub count: u64,
 }
 
 // The cursor after some meters, and what every day has of them besides what stands in the spans' sums.
-#[derive(Drop)]
+#[derive(Clone, Copy)]
 pub struct MetersAdded {
     pub next: Cursor,
     pub every: Figures,

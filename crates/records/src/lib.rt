@@ -11,31 +11,31 @@ ghost use Rattle.records.specs.Conditions.{condition_of};
 use bits::{Cursor, cut};
 use rules::{Band, Condition, Header, MeterHead, PointHead, Read, Transfer};
 
-#[derive(Drop)]
+#[derive(Clone, Copy)]
 pub struct TakenHeader {
     pub value: Header,
     pub next: Cursor,
 }
 
-#[derive(Drop)]
+#[derive(Clone, Copy)]
 pub struct TakenBand {
     pub value: Band,
     pub next: Cursor,
 }
 
-#[derive(Drop)]
+#[derive(Clone, Copy)]
 pub struct TakenPointHead {
     pub value: PointHead,
     pub next: Cursor,
 }
 
-#[derive(Drop)]
+#[derive(Clone, Copy)]
 pub struct TakenTransfer {
     pub value: Transfer,
     pub next: Cursor,
 }
 
-#[derive(Drop)]
+#[derive(Clone, Copy)]
 pub struct TakenCondition {
     pub value: Condition,
     pub next: Cursor,
@@ -43,25 +43,25 @@ pub struct TakenCondition {
 
 // A condition by its two groups of fields, as they stand in the file: day, flags and discounts; rateable value. Two numbers hold what a condition
 // has in eight.
-#[derive(Drop)]
+#[derive(Clone, Copy)]
 pub struct Groups {
     pub state: u64,
     pub rateable: u64,
 }
 
-#[derive(Drop)]
+#[derive(Clone, Copy)]
 pub struct TakenGroups {
     pub value: Groups,
     pub next: Cursor,
 }
 
-#[derive(Drop)]
+#[derive(Clone, Copy)]
 pub struct TakenMeterHead {
     pub value: MeterHead,
     pub next: Cursor,
 }
 
-#[derive(Drop)]
+#[derive(Clone, Copy)]
 pub struct TakenRead {
     pub value: Read,
     pub next: Cursor,

@@ -27,7 +27,7 @@ const ALLOWANCE: usize = 6;
 const THRESHOLD: usize = 7;
 
 // A point's charged days, so many from `start` on, which are cut into so many spans. The number of a day, from 0 on, is its entry.
-#[derive(Drop)]
+#[derive(Clone, Copy)]
 pub struct SpanDays {
     pub start: u64,
     pub count: usize,
@@ -35,7 +35,7 @@ pub struct SpanDays {
 }
 
 // What each of some days has of meters: annual charge, allowance and threshold × share.
-#[derive(Drop)]
+#[derive(Clone, Copy)]
 pub struct Figures {
     pub annual: u64,
     pub allowance: u64,
@@ -43,7 +43,7 @@ pub struct Figures {
 }
 
 // A span by value.
-#[derive(Drop)]
+#[derive(Clone, Copy)]
 pub struct Span {
     pub end: usize,
     pub provider: u64,
