@@ -4,4 +4,4 @@ use Rattle.exact.proofs.Laws.{product_fits}
 use Rattle.exact.proofs.mul_div.Goals as goal
 
 pub overflow_mul-result : goal.overflow_mul-result
-overflow_mul-result c = omega (arith, product_fits c.args.a c.args.b (omega arith) (omega arith) c.if-a-b-ge64.true)
+overflow_mul-result c = omega (arith, product_fits c.args.a c.args.b (omega arith) (omega arith) (omega arith))
