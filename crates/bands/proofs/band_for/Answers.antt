@@ -1,7 +1,6 @@
 -- `bands::band_for` meets its contract: the band at `best`, and then the bands that are left, give the one that serves; k is the place of the first
 -- of these. Assumes nothing.
 use mathlib.Core.Path.{refl, ◌∙◌}
-use mathlib.Core.Logic.{⊎_elim}
 use native.Mathlib.Omega.{arith}
 use Rattle.records.proofs.Ahead.{ahead_within, ahead_one, ahead_turn, ahead_done}
 use Rattle.bands.proofs.Serving.{size_next, serves_next, serves_best, serves_first, served_is, serves_last, no_size, bands_end}
@@ -44,9 +43,9 @@ returns c =
     let u = l.invariant in
     let s = c.args in
     let served : band_at s.file.now l.best.at ≡ served_by s.file.now s.size s.count s.c.at =
-        elim c.loop-left-test.branch
-          [ else-loop-left-test w ↦ serves_last (ahead_done u.0 (omega (arith, w.loop-left-test.false))).1
-          | then-loop-left-test+then-size-sizes w ↦
-              ahead_one u.0 w.loop-left-test.true (refl, refl) (λ bs v. serves_best _ _ _ bs v (omega (arith, size_next l.k c.requires.sizes_of u.1 u.2 w.loop-left-test.true, w.if-size-sizes.true)))
-          ] in
+    elim c.loop-left-test.branch [
+      | else-loop-left-test w ↦ serves_last (ahead_done u.0 (omega (arith, w.loop-left-test.false))).1
+      | then-loop-left-test+then-size-sizes w ↦
+          ahead_one u.0 w.loop-left-test.true (refl, refl) (λ bs v. serves_best _ _ _ bs v (omega (arith, size_next l.k c.requires.sizes_of u.1 u.2 w.loop-left-test.true, w.if-size-sizes.true)))
+    ] in
     c.band-taken.ensures.0 ∙ served ∙ served_is s.file.now s.size s.count s.c.at (omega (arith, c.requires.le_count.0)) c.if-size-eq0.false

@@ -1,5 +1,4 @@
 -- `bands::band_sizes` meets its contract: the sizes below k are those of the first k bands. Assumes nothing.
-use Prim.Native.Nat.{◌-◌}
 use mathlib.Core.Path.{refl, ap, ◌∙◌}
 use native.Mathlib.Omega.{arith}
 use lib.ListN.{length-set}

@@ -1,7 +1,6 @@
 -- `cuts::cut_days` meets its contract: the days before entry i are cut into s spans, and those from there on go by the records ahead (`Cutting`).
 -- Assumes nothing.
 use native.Mathlib.Omega.{arith}
-use Prim.Native.Nat.{◌-◌}
 use Rattle.cuts.proofs.Cutting.{cutting_begin, cutting_room, cutting_turn, cutting_end}
 use Rattle.cuts.proofs.cut_days.Goals as goal
 

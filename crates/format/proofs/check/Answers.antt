@@ -1,6 +1,5 @@
 -- `check` meets its contract. Each loop's invariant says that the refusal of the whole file is that of what is still to come; the measure is how
 -- many records of the list are left. Assumes nothing.
-use Prim.Native.Nat.{◌-◌}
 use mathlib.Core.Path.{sym, ◌∙◌}
 use native.Mathlib.Omega.{arith}
 use Rattle.rules.proofs.Judged.{meter_digits}

@@ -1,7 +1,6 @@
 -- `meters::add_advance` meets its contract: the spans up to s have what the days before entry i carry (`Advancing`). Assumes nothing.
 use native.Mathlib.Omega.{arith}
 use native.Mathlib.Nat.{le_refl}
-use Prim.Native.Nat.{◌-◌}
 use Rattle.meters.proofs.Advances.{advance_nowhere, advance_day, advancing_begin, advancing_asks, advancing_day, advancing_grows, advancing_room, advancing_turn, advancing_end}
 use Rattle.spans.proofs.Days.{held_room}
 use Rattle.meters.proofs.add_advance.Goals as goal

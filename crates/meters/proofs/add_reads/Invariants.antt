@@ -3,7 +3,6 @@ use Rattle.rules.specs.File.{read_at, after_read, reads as reads_of, after_reads
 use Rattle.records.proofs.Ahead.{Ahead}
 use Rattle.spans.specs.Spans.{Cut}
 use Rattle.meters.proofs.Advances.{ReadsLeft}
-use Rattle.meters.proofs.add_reads.Reads as reads
 use Rattle.meters.proofs.add_reads.Given as goal
 
 abbrev pub invariant-loop-left : goal.invariant-loop-left

@@ -2,7 +2,6 @@
 use Rattle.spans.proofs.Days.{adding_none, adding_asks, held_room, adding_room, adding_more, adding_done, reached_first}
 use Rattle.rules.proofs.Sums.{days_each}
 use native.Mathlib.Omega.{arith}
-use Prim.Native.Nat.{◌-◌}
 use Rattle.spans.proofs.add_figures.Goals as goal
 
 pub loop-i-init : goal.loop-i-init

@@ -1,7 +1,6 @@
 -- `spans::span_with` meets its contract: the span s does not begin after entry i, however the days are cut. Assumes nothing.
 use Rattle.spans.proofs.Days.{reached_span, reached_next}
 use native.Mathlib.Omega.{arith}
-use Prim.Native.Nat.{◌-◌}
 use Rattle.spans.proofs.span_with.Goals as goal
 
 pub span_end-end-requires : goal.span_end-end-requires

@@ -1,5 +1,4 @@
 -- `unit::statement_at` meets its contract: the answer is among the points that are left. Assumes nothing.
-use Prim.Native.Nat.{◌-◌}
 use native.Mathlib.Omega.{arith}
 use Rattle.rules.proofs.Accepted.{accepted}
 use Rattle.records.proofs.Walk.{left_within, point_within, points_start}
