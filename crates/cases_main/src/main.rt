@@ -11,7 +11,11 @@ use std::io::{BufReader, BufWriter, Read, Write};
 
 fn print_charges<W: Write>(out: &mut W, charges: [Centipence; 4]) -> io::Result<()> {
     let [meter, volumetric, property, roads] = charges;
-    writeln!(out, " {} {} {} {}", meter.0, volumetric.0, property.0, roads.0)
+    writeln!(
+        out,
+        " {} {} {} {}",
+        meter.0, volumetric.0, property.0, roads.0
+    )
 }
 
 fn print_row<W: Write>(out: &mut W, row: Row) -> io::Result<()> {
@@ -111,8 +115,16 @@ fn print_rows<W: Write>(out: &mut W, file: &[u8], entries: usize) -> io::Result<
 
 fn print_statement<W: Write>(out: &mut W, place: u64, answer: StatementAnswer) -> io::Result<()> {
     let s = answer.statement;
-    write!(out, "statement {place} {} {} {}", answer.number, s.days.0, s.litres.0)?;
-    write!(out, " {} {} {}", s.disconnected.0, s.volume.0, s.year_cost.0)?;
+    write!(
+        out,
+        "statement {place} {} {} {}",
+        answer.number, s.days.0, s.litres.0
+    )?;
+    write!(
+        out,
+        " {} {} {}",
+        s.disconnected.0, s.volume.0, s.year_cost.0
+    )?;
     print_charges(out, s.charges)
 }
 
@@ -160,8 +172,7 @@ fn kept_from(space: &[u8], from: usize) -> u64 {
 }
 
 // No report is under 52 bytes, and no refusal's number over 14.
-fn print_report<W: Write>(out: &mut W, file: &[u8], space: &mut [u8]) -> io::Result<()>
-{
+fn print_report<W: Write>(out: &mut W, file: &[u8], space: &mut [u8]) -> io::Result<()> {
     fill(space);
     let answer = unit::settlement_report(file, space);
     if answer < 52 {
