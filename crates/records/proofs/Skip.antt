@@ -5,7 +5,7 @@ use mathlib.Core.List.{List}
 use native.Mathlib.Omega.{arith}
 use Rattle.bits.specs.Took.{Took}
 use Rattle.rules.specs.declared.PointHead.{PointHead}
-use Rattle.rules.specs.File.{records, after, read_at, meter_head_at, meter_at, point_head_at, point_at, transfer_at, condition_at, reads, meters, conditions, transfers, transfers_from, reads_from, after_meter, after_meters, after_transfers, after_point}
+use Rattle.rules.specs.File.{records, after, read_at, meter_head_at, meter_at, point_head_at, point_at, transfer_at, condition_at, meters, transfers, transfers_from, reads_from, after_meter, after_meters, after_transfers, after_point}
 use Rattle.records.specs.Lists.{after_lists}
 use Rattle.records.proofs.Positions.{forward, meter_forward, records_wide}
 

@@ -19,7 +19,7 @@ use Rattle.report.proofs.Rows.{row_at, more_long, fits_at}
 
 -- rows in an array, as the machine holds them in the values us
 abbrev pub Held : List Row → List Val → Type 0
-Held rows us = shadow (each Row (row the_type).own rows us)
+Held rows us = shadow (each Row (row the_type).own_val rows us)
 
 provider_held : (rows : List Row) (us : List Val) (k : ℕ) → Held rows us → k < length rows → (row_at rows k).provider < 2 ^ 64
 provider_held [] us k h g = absurd (omega arith)

@@ -1,0 +1,16 @@
+-- `meters::add_during` meets its contract: a meter on all days is added to what every day has, and any other to the spans. Assumes nothing.
+use native.Mathlib.Omega.{arith}
+use Rattle.meters.proofs.Adding.{every_fits, figures_every, figures_ask, figures_put}
+use Rattle.meters.proofs.add_during.Goals as goal
+
+pub both-requires : goal.both-requires
+both-requires c = every_fits _ _ _ _ _ _ _ c.requires.cut c.entry-from.ensures c.entry-to.ensures (c.on_all_days.ensures.yes c.if-on_all_days.true) c.requires.room_with
+
+pub returns-then-on_all_days : goal.returns-then-on_all_days
+returns-then-on_all_days c = figures_every _ _ _ _ _ _ _ c.requires.cut c.entry-from.ensures c.entry-to.ensures (c.on_all_days.ensures.yes c.if-on_all_days.true) c.both.ensures
+
+pub add_figures-requires : goal.add_figures-requires
+add_figures-requires c = record { cut = (c.requires.cut, omega (arith, c.entry-to.ensures)); room = figures_ask _ _ _ _ _ _ _ c.requires.cut c.entry-from.ensures c.entry-to.ensures c.requires.room_with }
+
+pub returns : goal.returns
+returns c = figures_put _ _ _ _ _ _ _ c.requires.cut c.entry-from.ensures c.entry-to.ensures c.add_figures.ensures

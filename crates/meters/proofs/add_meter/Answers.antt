@@ -1,0 +1,24 @@
+-- `meters::add_meter` meets its contract: its litres, and then its figures. Assumes nothing.
+use native.Mathlib.Omega.{arith}
+use Rattle.rules.specs.File.{bands as bands_of, meter_at}
+use Rattle.records.proofs.Positions.{meter_forward}
+use Rattle.meters.proofs.Adding.{weights_fit, meter_asks, during_asks, meter_added}
+use Rattle.meters.proofs.add_meter.Goals as goal
+
+pub meter-taken-requires : goal.meter-taken-requires
+meter-taken-requires c = let s = c.args in omega (arith, c.requires.at_bound, meter_forward s.c.at (meter_at s.file.now s.c.at))
+
+pub band_for-band-requires : goal.band_for-band-requires
+band_for-band-requires c = let p = c.requires.good_bands in record { le_count = (p.0.some, p.0.ends, p.0.rising); sizes_of = p.1 }
+
+pub figures_of-each-requires : goal.figures_of-each-requires
+figures_of-each-requires c = let s = c.args in weights_fit s.file.now s.c.at c.meter-taken.ensures (bands_of s.file.now s.bands.count s.bands.first.at) c.band_for-band.ensures c.requires.good_bands.0.priced c.requires.good_meter.0
+
+pub add_reads-next-requires : goal.add_reads-next-requires
+add_reads-next-requires c = let s = c.args in record { at_bound = (meter_asks s.file.now s.c.at c.meter-taken.ensures (bands_of s.file.now s.bands.count s.bands.first.at) c.band_for-band.ensures c.figures_of-each.ensures s.days.start s.every c.requires.good_meter.1 c.requires.room_with c.requires.at_bound c.requires.good_meter.0).0; good_meter = (meter_asks s.file.now s.c.at c.meter-taken.ensures (bands_of s.file.now s.bands.count s.bands.first.at) c.band_for-band.ensures c.figures_of-each.ensures s.days.start s.every c.requires.good_meter.1 c.requires.room_with c.requires.at_bound c.requires.good_meter.0).1.0; room = (meter_asks s.file.now s.c.at c.meter-taken.ensures (bands_of s.file.now s.bands.count s.bands.first.at) c.band_for-band.ensures c.figures_of-each.ensures s.days.start s.every c.requires.good_meter.1 c.requires.room_with c.requires.at_bound c.requires.good_meter.0).1.1 }
+
+pub add_during-more-requires : goal.add_during-more-requires
+add_during-more-requires c = let s = c.args in record { cut = (during_asks s.file.now s.c.at c.meter-taken.ensures (bands_of s.file.now s.bands.count s.bands.first.at) c.band_for-band.ensures c.figures_of-each.ensures s.days.start s.every c.requires.good_meter.1 c.requires.room_with (c.add_reads-next.ensures.ends, c.add_reads-next.ensures.grown)).0; room_with = (during_asks s.file.now s.c.at c.meter-taken.ensures (bands_of s.file.now s.bands.count s.bands.first.at) c.band_for-band.ensures c.figures_of-each.ensures s.days.start s.every c.requires.good_meter.1 c.requires.room_with (c.add_reads-next.ensures.ends, c.add_reads-next.ensures.grown)).1 }
+
+pub returns : goal.returns
+returns c = let s = c.args in record { ends = (meter_added s.file.now s.c.at c.meter-taken.ensures (bands_of s.file.now s.bands.count s.bands.first.at) c.band_for-band.ensures c.figures_of-each.ensures s.days.start s.every c.requires.good_meter.1 c.requires.room_with (c.add_reads-next.ensures.ends, c.add_reads-next.ensures.grown) c.add_during-more.ensures).0; added = (meter_added s.file.now s.c.at c.meter-taken.ensures (bands_of s.file.now s.bands.count s.bands.first.at) c.band_for-band.ensures c.figures_of-each.ensures s.days.start s.every c.requires.good_meter.1 c.requires.room_with (c.add_reads-next.ensures.ends, c.add_reads-next.ensures.grown) c.add_during-more.ensures).1 }

@@ -1,0 +1,38 @@
+-- `meters::add_reads` meets its contract: what the spans have, and what the advances left will add, is what all of them have (`ReadsLeft`). Assumes
+-- nothing.
+use native.Mathlib.Omega.{arith}
+use Rattle.rules.specs.File.{read_at, after_read, reads as reads_of}
+use Rattle.records.proofs.Positions.{forward}
+use Rattle.records.proofs.Ahead.{read_past, ahead_within, ahead_one, ahead_turn}
+use Rattle.meters.proofs.Advances.{reads_ask, reads_turn, no_reads, reads_begin, reads_done}
+use Rattle.meters.proofs.add_reads.Goals as goal
+
+pub returns-then-head-eq0 : goal.returns-then-head-eq0
+returns-then-head-eq0 c =
+    let s = c.args in
+    let none = no_reads s.file.now s.head s.head.reads s.c.at s.days.start s.days.spans {l = s.spans.now} c.if-head-eq0.true in
+    record { ends = none.0; grown = none.1 }
+
+pub read-first-requires : goal.read-first-requires
+read-first-requires c = let s = c.args in omega (arith, c.requires.at_bound, forward {next = λ at r. after_read at} (λ at r. omega arith) s.c.at (reads_of s.file.now s.head.reads s.c.at))
+
+pub dial_values-dial-requires : goal.dial_values-dial-requires
+dial_values-dial-requires c = let good = c.requires.good_meter.0.head in (good.digits_from, good.digits_to)
+
+pub loop-left-init : goal.loop-left-init
+loop-left-init c = (reads_begin _ _ _ _ _ _ (omega (arith, c.if-head-eq0.false)) c.read-first.ensures c.requires.good_meter.1 c.requires.good_meter.0 c.requires.room, c.requires.good_meter.1)
+
+pub read-taken-requires : goal.read-taken-requires
+read-taken-requires c = let s = c.args in omega (arith, c.requires.at_bound, ahead_within c.loop-left.invariant.0 (λ at r. omega arith), read_past (read_at s.file.now) (λ at r. after_read at) s.head.reads s.c.at (omega (arith, c.if-head-eq0.false)) c.read-first.ensures)
+
+pub advance_of-advance-requires : goal.advance_of-advance-requires
+advance_of-advance-requires c = ahead_one c.loop-left.invariant.0 c.loop-left-test.true c.read-taken.ensures (λ rs u. (u.sound, u.each.0, u.advances.0, c.dial_values-dial.ensures))
+
+pub spread_advance-s-requires : goal.spread_advance-s-requires
+spread_advance-s-requires c = record { cut = (ahead_one c.loop-left.invariant.0 c.loop-left-test.true c.read-taken.ensures (λ rs u. reads_ask c.advance_of-advance.ensures u c.loop-left.invariant.1)).0; reached_2 = (ahead_one c.loop-left.invariant.0 c.loop-left-test.true c.read-taken.ensures (λ rs u. reads_ask c.advance_of-advance.ensures u c.loop-left.invariant.1)).1.0; room = (ahead_one c.loop-left.invariant.0 c.loop-left-test.true c.read-taken.ensures (λ rs u. reads_ask c.advance_of-advance.ensures u c.loop-left.invariant.1)).1.1 }
+
+pub loop-left-preserved : goal.loop-left-preserved
+loop-left-preserved c = (ahead_turn c.loop-left.invariant.0 c.loop-left-test.true c.read-taken.ensures (λ rs u. reads_turn c.advance_of-advance.ensures u c.spread_advance-s.ensures.added c.spread_advance-s.ensures.reached), c.loop-left.invariant.1)
+
+pub returns : goal.returns
+returns c = record { ends = (reads_done _ _ _ _ _ _ (omega (arith, c.if-head-eq0.false)) c.read-first.ensures (omega arith) c.loop-left.invariant.0).0; grown = (reads_done _ _ _ _ _ _ (omega (arith, c.if-head-eq0.false)) c.read-first.ensures (omega arith) c.loop-left.invariant.0).1 }

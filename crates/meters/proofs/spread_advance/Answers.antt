@@ -1,0 +1,13 @@
+-- `meters::spread_advance` meets its contract. Assumes nothing.
+use native.Mathlib.Omega.{arith}
+use Rattle.meters.proofs.Advances.{amount_fits, whole_room, whole_added}
+use Rattle.meters.proofs.spread_advance.Goals as goal
+
+pub overflow_mul-a : goal.overflow_mul-a
+overflow_mul-a c = omega (arith, amount_fits c.requires.cut.1)
+
+pub add_litres-requires : goal.add_litres-requires
+add_litres-requires c = whole_room _ _ _ _ c.requires.cut.0 c.requires.cut.1 c.requires.reached_2 (c.holds_all.ensures.yes c.if-holds_all.true) c.requires.room
+
+pub returns-then-holds_all : goal.returns-then-holds_all
+returns-then-holds_all c = record { added = (whole_added _ _ _ _ c.requires.cut.0 c.requires.cut.1 c.requires.reached_2 (c.holds_all.ensures.yes c.if-holds_all.true) c.add_litres.ensures).0; reached = (whole_added _ _ _ _ c.requires.cut.0 c.requires.cut.1 c.requires.reached_2 (c.holds_all.ensures.yes c.if-holds_all.true) c.add_litres.ensures).1 }
