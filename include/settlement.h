@@ -1,4 +1,4 @@
-/* The settlement unit: one function. Link target/staticlib/libunit.a, which `rt staticlib unit` proves and writes (x86-64). */
+/* The settlement unit: one function. Link target/staticlib/libunit.a, which `tools/staticlib` proves and writes (x86-64). */
 #ifndef SETTLEMENT_H
 #define SETTLEMENT_H
 
@@ -28,7 +28,7 @@ extern "C" {
  * - the two don't overlap, and nobody else writes to them during the call;
  * - neither pointer is null, even where its length is 0 (any other address will do then; it is not read);
  * - the stack has room. Measured, not proved: a call took at most 16,064 bytes, its return address included, on the seven files of
- *   docs/MEASURED.md, part 4 (x86-64, the archive as `rt staticlib` builds it, glibc's memcpy and memset).
+ *   docs/MEASURED.md, part 4 (x86-64, the archive as `rt lib` builds it, glibc's memcpy and memset).
  *
  * A `file_len` of 0 is a file that lacks bits: the answer is 2. A `space_len` of 0 is a space too short: 14, unless the file is refused first.
  * No report is longer than 26,567 bytes, so 26,567 bytes of space suffice for every file.

@@ -1,7 +1,10 @@
 #![tactic(auto)]
 // A batch on standard input: cases one after the other, each of three numbers of 4 bytes, most significant first (the length of the file, the
 // entries of the table lent, the bytes of report space lent), and then the file's bytes.
-ghost use Rattle.std.specs.Prelude.{◌≡◌, ◌≤◌, ◌<◌, min, length};
+ghost use Rattle.std.specs.Prelude.{◌≡◌, ◌≤◌, ◌<◌, min, length, IfOk};
+
+use std::io;
+use std::io::Read;
 
 // The most cases of a batch.
 pub const CASES: u64 = 1000000;
@@ -36,21 +39,37 @@ pub fn least(a: usize, b: usize) -> usize
     if a < b { a } else { b }
 }
 
+// Reads until the space is full or the input ends, and hands back how many bytes it put at the front of the space.
+pub fn read_full<R: Read>(input: &mut R, space: &mut [u8]) -> io::Result<usize>
+    ensures within { IfOk result (λ n. n ≤ length space.new) }
+    ensures same_length { length space.new ≡ length space.old }
+{
+    let mut done: usize = 0;
+    while done < space.len() {
+        let n = input.read(&mut space[done..])?;
+        if n == 0 {
+            break;
+        }
+        done += n;
+    }
+    Ok(done)
+}
+
 // Reads so many bytes and keeps none; false where the input ends before them.
-fn passed_over(space: &mut [u8], count: usize) -> bool {
+fn passed_over<R: Read>(input: &mut R, space: &mut [u8], count: usize) -> io::Result<bool> {
     let mut left = count;
     while left > 0 {
         let part = least(left, space.len());
         if part == 0 {
-            return false;
+            return Ok(false);
         }
-        let n = io::read_full(0, &mut space[..part]);
+        let n = read_full(input, &mut space[..part])?;
         if n < part {
-            return false;
+            return Ok(false);
         }
         left -= part;
     }
-    true
+    Ok(true)
 }
 
 // A case that was read into a space: whether there is one, how much of its file was kept, and what is to be lent, entries of a table and bytes of
@@ -75,30 +94,31 @@ fn no_case() -> Case
 }
 
 // Reads the next case's file into the space. Of a longer file only the space is filled.
-pub fn next_case(space: &mut [u8]) -> Case
-    ensures { (result.kept ≤ length space.new) × (length space.new ≡ length space.old) }
+pub fn next_case<R: Read>(input: &mut R, space: &mut [u8]) -> io::Result<Case>
+    ensures within { IfOk result (λ case. case.kept ≤ length space.new) }
+    ensures same_length { length space.new ≡ length space.old }
 {
     let mut head = [0u8; 12];
-    let n = io::read_full(0, &mut head);
+    let n = read_full(input, &mut head)?;
     if n < 12 {
-        return no_case();
+        return Ok(no_case());
     }
     let size = number_at(head, 0);
     let kept = least(size, space.len());
-    let m = io::read_full(0, &mut space[..kept]);
+    let m = read_full(input, &mut space[..kept])?;
     if m < kept {
-        return no_case();
+        return Ok(no_case());
     }
     if size > kept {
         let mut waste = [0u8; 4096];
-        if !passed_over(&mut waste, size - kept) {
-            return no_case();
+        if !passed_over(input, &mut waste, size - kept)? {
+            return Ok(no_case());
         }
     }
-    Case {
+    Ok(Case {
         there: true,
         kept,
         entries: number_at(head, 1),
         bytes: number_at(head, 2),
-    }
+    })
 }

@@ -6,29 +6,21 @@
 ghost use Rattle.std.specs.Prelude.{◌≡◌, ◌≤◌, ◌<◌, length};
 
 use rules::{Centipence, Days, Litres, Row, RowsAnswer, StatementAnswer};
+use std::io;
+use std::io::{BufReader, BufWriter, Read, Write};
 
-fn print_number(n: u64) {
-    io::write_all(1, b" ");
-    io::print_decimal(1, n);
+fn print_charges<W: Write>(out: &mut W, charges: [Centipence; 4]) -> io::Result<()> {
+    let [meter, volumetric, property, roads] = charges;
+    writeln!(
+        out,
+        " {} {} {} {}",
+        meter.0, volumetric.0, property.0, roads.0
+    )
 }
 
-fn print_charges(charges: [Centipence; 4]) {
-    print_number(charges[0].0);
-    print_number(charges[1].0);
-    print_number(charges[2].0);
-    print_number(charges[3].0);
-    io::write_all(1, b"\n");
-}
-
-fn print_row(row: Row) {
-    let days = row.days;
-    let litres = row.litres;
-    let charges = row.charges;
-    io::write_all(1, b"row");
-    print_number(row.provider);
-    print_number(days.0);
-    print_number(litres.0);
-    print_charges(charges);
+fn print_row<W: Write>(out: &mut W, row: Row) -> io::Result<()> {
+    write!(out, "row {} {} {}", row.provider, row.days.0, row.litres.0)?;
+    print_charges(out, row.charges)
 }
 
 // The most entries that are lent: more than any answer has rows.
@@ -94,59 +86,58 @@ fn rows_kept(table: [Row; ENTRIES], from: usize, lent: usize) -> u64
     kept
 }
 
-fn print_table(answer: RowsAnswer, table: [Row; ENTRIES], lent: usize)
+fn print_table<W: Write>(
+    out: &mut W,
+    answer: RowsAnswer,
+    table: [Row; ENTRIES],
+    lent: usize,
+) -> io::Result<()>
     requires { lent ≤ 80 }
 {
     let count = answer.count;
-    io::write_all(1, b"rows");
-    print_number(answer.number);
-    print_number(count as u64);
-    print_number(rows_kept(table, count, lent));
-    io::write_all(1, b"\n");
+    let kept = rows_kept(table, count, lent);
+    writeln!(out, "rows {} {count} {kept}", answer.number)?;
     for i in 0..ENTRIES {
         if i < count {
             let row = table[i];
-            print_row(row);
+            print_row(out, row)?;
         }
     }
+    Ok(())
 }
 
-// The one function here that has the table by reference.
-fn print_rows(file: &[u8], entries: usize) {
+fn print_rows<W: Write>(out: &mut W, file: &[u8], entries: usize) -> io::Result<()> {
     let lent = batch::least(entries, ENTRIES);
     let mut table = table_found();
     let answer = unit::rows(file, &mut table[..lent]);
-    print_table(answer, table, lent);
+    print_table(out, answer, table, lent)
 }
 
-fn print_statement(place: u64, answer: StatementAnswer) {
+fn print_statement<W: Write>(out: &mut W, place: u64, answer: StatementAnswer) -> io::Result<()> {
     let s = answer.statement;
-    let days = s.days;
-    let litres = s.litres;
-    let disconnected = s.disconnected;
-    let volume = s.volume;
-    let cost = s.year_cost;
-    let charges = s.charges;
-    io::write_all(1, b"statement");
-    print_number(place);
-    print_number(answer.number);
-    print_number(days.0);
-    print_number(litres.0);
-    print_number(disconnected.0);
-    print_number(volume.0);
-    print_number(cost.0);
-    print_charges(charges);
+    write!(
+        out,
+        "statement {place} {} {} {}",
+        answer.number, s.days.0, s.litres.0
+    )?;
+    write!(
+        out,
+        " {} {} {}",
+        s.disconnected.0, s.volume.0, s.year_cost.0
+    )?;
+    print_charges(out, s.charges)
 }
 
 // No file has more than 64 points, so that the 65th place is refused.
-fn print_statements(file: &[u8]) {
+fn print_statements<W: Write>(out: &mut W, file: &[u8]) -> io::Result<()> {
     for place in 0..65 {
         let answer = unit::statement(file, place);
-        print_statement(place, answer);
+        print_statement(out, place, answer)?;
         if answer.number != 0 {
             break;
         }
     }
+    Ok(())
 }
 
 // What a byte of the report space holds before the call: no byte of a text, and no two neighbours alike.
@@ -180,55 +171,62 @@ fn kept_from(space: &[u8], from: usize) -> u64 {
     kept
 }
 
-fn print_kept(space: &[u8], from: usize) {
-    print_number(kept_from(space, from));
-    io::write_all(1, b"\n");
-}
-
 // No report is under 52 bytes, and no refusal's number over 14.
-fn print_report(file: &[u8], space: &mut [u8]) {
+fn print_report<W: Write>(out: &mut W, file: &[u8], space: &mut [u8]) -> io::Result<()> {
     fill(space);
     let answer = unit::settlement_report(file, space);
-    io::write_all(1, b"report");
-    print_number(answer);
     if answer < 52 {
-        print_kept(space, 0);
-        return;
+        let kept = kept_from(space, 0);
+        return writeln!(out, "report {answer} {kept}");
     }
     let end = answer as usize;
-    print_kept(space, end);
-    io::write_all(1, &space[..end]);
+    let kept = kept_from(space, end);
+    writeln!(out, "report {answer} {kept}")?;
+    out.write_all(&space[..end])
 }
 
 // Reads a case and prints it; false where there is none.
-fn one_case(space: &mut [u8], lent: &mut [u8], number: u64) -> bool {
-    let case = batch::next_case(space);
+fn one_case<R: Read, W: Write>(
+    input: &mut R,
+    out: &mut W,
+    space: &mut [u8],
+    lent: &mut [u8],
+    number: u64,
+) -> io::Result<bool> {
+    let case = batch::next_case(input, space)?;
     if !case.there {
-        return false;
+        return Ok(false);
     }
     let kept = case.kept;
     let file = &space[..kept];
-    io::write_all(1, b"case");
-    print_number(number);
-    io::write_all(1, b"\n");
-    let entries = case.entries;
-    print_rows(file, entries);
-    print_statements(file);
+    writeln!(out, "case {number}")?;
+    print_rows(out, file, case.entries)?;
+    print_statements(out, file)?;
     let bytes = batch::least(case.bytes, lent.len());
-    print_report(file, &mut lent[..bytes]);
-    true
+    print_report(out, file, &mut lent[..bytes])?;
+    Ok(true)
 }
 
-fn all_cases(space: &mut [u8], lent: &mut [u8]) {
+fn all_cases<R: Read, W: Write>(
+    input: &mut R,
+    out: &mut W,
+    space: &mut [u8],
+    lent: &mut [u8],
+) -> io::Result<()> {
     for number in 0..batch::CASES {
-        if !one_case(space, lent, number) {
+        if !one_case(input, out, space, lent, number)? {
             break;
         }
     }
+    Ok(())
 }
 
-fn main() {
+fn main(rt: HostRuntime) -> io::Result<()> {
+    let mut input = BufReader::new(rt.alloc(), rt.stdin())?;
+    let mut out = BufWriter::new(rt.alloc(), rt.stdout())?;
     let mut space = batch::room();
-    let mut lent = io::large_buffer();
-    all_cases(&mut space, &mut lent);
+    let mut lent = [0u8; 65536];
+    let ended = all_cases(&mut input, &mut out, &mut space, &mut lent);
+    out.flush()?;
+    ended
 }

@@ -1,26 +1,34 @@
 #![tactic(auto)]
 // Prints the number of each file of a batch, a line each.
+use std::io;
+use std::io::{BufReader, BufWriter, Read, Write};
 
 // Reads a case and prints its file's number; false where there is none.
-fn one_case(space: &mut [u8]) -> bool {
-    let case = batch::next_case(space);
+fn one_case<R: Read, W: Write>(input: &mut R, out: &mut W, space: &mut [u8]) -> io::Result<bool> {
+    let case = batch::next_case(input, space)?;
     if !case.there {
-        return false;
+        return Ok(false);
     }
     let kept = case.kept;
-    io::print_decimal(1, format::check(&space[..kept]));
-    io::write_all(1, b"\n")
+    let number = format::check(&space[..kept]);
+    writeln!(out, "{number}")?;
+    Ok(true)
 }
 
-fn all_cases(space: &mut [u8]) {
+fn all_cases<R: Read, W: Write>(input: &mut R, out: &mut W, space: &mut [u8]) -> io::Result<()> {
     for _ in 0..batch::CASES {
-        if !one_case(space) {
+        if !one_case(input, out, space)? {
             break;
         }
     }
+    Ok(())
 }
 
-fn main() {
+fn main(rt: HostRuntime) -> io::Result<()> {
+    let mut input = BufReader::new(rt.alloc(), rt.stdin())?;
+    let mut out = BufWriter::new(rt.alloc(), rt.stdout())?;
     let mut space = batch::room();
-    all_cases(&mut space);
+    let ended = all_cases(&mut input, &mut out, &mut space);
+    out.flush()?;
+    ended
 }

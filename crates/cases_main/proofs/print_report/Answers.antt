@@ -1,0 +1,11 @@
+use Rattle.std.proofs.Common.{arith, sym, length-take-le}
+use Rattle.rules.proofs.Numbers.{length_within}
+use Rattle.cases_main.proofs.print_report.Goals as goal
+
+pub slice_bounds-write_all-end : goal.slice_bounds-write_all-end
+slice_bounds-write_all-end g c =
+    let said = c.settlement_report-answer.ensures in
+    length_within c.args.file.now c.fill.new.space _ _ said.answer said.after (omega (arith, c.if-answer-lt52.false))
+
+pub slice_bounds-write_all-end-2 : goal.slice_bounds-write_all-end-2
+slice_bounds-write_all-end-2 g c = sym (length-take-le _ _ (slice_bounds-write_all-end g c))
