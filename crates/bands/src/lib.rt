@@ -41,6 +41,7 @@ pub fn band_sizes(file: &[u8], c: Cursor, count: u64) -> [u64; 24]
 
 // The band that serves a tariff size, of at least one band, whose sizes are lent: only the band that serves is read from the file. The sizes ascend,
 // so that the first one above the size ends the search.
+#[tactic(auto, using(crate::proofs::Serving::no_size))]
 pub fn band_for<'a>(file: &'a [u8], c: Cursor, count: u64, sizes: &'a [u64], size: u64) -> Band
     requires le_count { (1 ≤ count) × (after_bands c.at (bands_from file.now count c.at) < 2 ^ 32) × Ascending 0 (map (λ b. b.size) (bands_from file.now count c.at)) }
     requires sizes_of { SizesOf file.now count c.at sizes.now }

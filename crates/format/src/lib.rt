@@ -13,6 +13,7 @@ const MOST_BYTES: usize = 65536;
 const MOST_DAYS: u64 = 3660;
 
 // After the last record: less than a byte is left, and its bits are 0.
+#[tactic(auto, unfolding(rules::specs::Refusal::padding_number))]
 fn padding_number(file: &[u8], c: Cursor) -> u64
     requires { (length file.now ≤ 65536) × (c.at ≤ length file.now * 8) }
     ensures { result ≡ padding_number file.now c.at }

@@ -3,15 +3,12 @@
 use mathlib.Core.Path.{refl, ◌∙◌}
 use native.Mathlib.Omega.{arith}
 use Rattle.records.proofs.Ahead.{ahead_within, ahead_one, ahead_turn, ahead_done}
-use Rattle.bands.proofs.Serving.{size_next, serves_next, serves_best, serves_first, served_is, serves_last, no_size, bands_end}
+use Rattle.bands.proofs.Serving.{size_next, serves_next, serves_best, serves_first, served_is, serves_last, bands_end}
 use Rattle.rules.specs.File.{band_at}
 use Rattle.bands.proofs.Serving.{served_by}
 use mathlib.Core.Path.{◌≡◌}
 use Rattle.bands.proofs.band_for.Goals.{else-loop-left-test, then-loop-left-test+then-size-sizes}
 use Rattle.bands.proofs.band_for.Goals as goal
-
-pub returns-then-size-eq0 : goal.returns-then-size-eq0
-returns-then-size-eq0 c = no_size _ _ _ _ c.no_band.ensures c.if-size-eq0.true
 
 pub loop-left-init : goal.loop-left-init
 loop-left-init c = let s = c.args in let p = c.requires.le_count in (record { ends = bands_end s.file.now s.size s.count s.c.at (omega (arith, p.0)); holds = serves_first s.file.now s.size s.count s.c.at (omega (arith, p.0)) p.2 }, omega (arith, p.0), omega arith)
