@@ -1,7 +1,9 @@
 #![tactic(auto)]
 // A batch on standard input: cases one after the other, each of three numbers of 4 bytes, most significant first (the length of the file, the
 // entries of the table lent, the bytes of report space lent), and then the file's bytes.
-ghost use Rattle.std.specs.Prelude.{◌≡◌, ◌≤◌, ◌<◌, min, length, IfOk};
+ghost use Rattle.std.specs.Prelude.{◌≡◌, ◌≤◌, ◌<◌, min, length, take, true, false, ◌+◌, ◌*◌, IfOk};
+ghost use Rattle.std.specs.Io.KnownBytes.{Consumes, IsAtEnd};
+ghost use Rattle.batch.specs.Batch.{number, Loses, EndsBefore, Reads, NoCase};
 
 use std::io;
 use std::io::Read;
@@ -17,7 +19,7 @@ pub fn room() -> [u8; 65537]
 }
 
 fn wide(x: u8) -> usize
-    ensures { result < 256 }
+    ensures { result ≡ x }
 {
     x as usize
 }
@@ -25,6 +27,7 @@ fn wide(x: u8) -> usize
 // The i-th of a case's three numbers, from 0.
 fn number_at(head: [u8; 12], i: usize) -> usize
     requires { i < 3 }
+    ensures { result ≡ number head (4 * i) }
 {
     let at = 4 * i;
     let high = wide(head[at]) * 256 + wide(head[at + 1]);
@@ -43,6 +46,8 @@ pub fn least(a: usize, b: usize) -> usize
 pub fn read_full<R: Read>(input: &mut R, space: &mut [u8]) -> io::Result<usize>
     ensures within { IfOk result (λ n. n ≤ length space.new) }
     ensures same_length { length space.new ≡ length space.old }
+    ensures bytes { IfOk result (λ n. Consumes (R.remaining input.old) (R.remaining input.new) (take n space.new)) }
+    ensures end { IfOk result (λ n. n < length space.new → IsAtEnd (R.remaining input.new)) }
 {
     let mut done: usize = 0;
     while done < space.len() {
@@ -56,7 +61,10 @@ pub fn read_full<R: Read>(input: &mut R, space: &mut [u8]) -> io::Result<usize>
 }
 
 // Reads so many bytes and keeps none; false where the input ends before them.
-fn passed_over<R: Read>(input: &mut R, space: &mut [u8], count: usize) -> io::Result<bool> {
+fn passed_over<R: Read>(input: &mut R, space: &mut [u8], count: usize) -> io::Result<bool>
+    ensures passed { IfOk result (λ all. all ≡ true → Loses (R.remaining input.old) (R.remaining input.new) count) }
+    ensures ended { IfOk result (λ all. all ≡ false → 0 < length space.old → EndsBefore (R.remaining input.old) count) }
+{
     let mut left = count;
     while left > 0 {
         let part = least(left, space.len());
@@ -83,7 +91,8 @@ pub struct Case {
 }
 
 fn no_case() -> Case
-    ensures { result.kept ≡ 0 }
+    ensures there { result.there ≡ false }
+    ensures kept { result.kept ≡ 0 }
 {
     Case {
         there: false,
@@ -93,10 +102,12 @@ fn no_case() -> Case
     }
 }
 
-// Reads the next case's file into the space. Of a longer file only the space is filled.
+// Reads the next case's file into the space. Of a longer file only the space is filled. The clauses on bytes hold of an input whose bytes are known.
 pub fn next_case<R: Read>(input: &mut R, space: &mut [u8]) -> io::Result<Case>
     ensures within { IfOk result (λ case. case.kept ≤ length space.new) }
     ensures same_length { length space.new ≡ length space.old }
+    ensures read { IfOk result (λ case. case.there ≡ true → Reads (R.remaining input.old) (R.remaining input.new) space.new case) }
+    ensures none { IfOk result (λ case. case.there ≡ false → NoCase (R.remaining input.old)) }
 {
     let mut head = [0u8; 12];
     let n = read_full(input, &mut head)?;
