@@ -204,6 +204,7 @@ fn one_case<R: Read, W: Write>(
     print_statements(out, file)?;
     let bytes = batch::least(case.bytes, lent.len());
     print_report(out, file, &mut lent[..bytes])?;
+    out.flush()?;
     Ok(true)
 }
 

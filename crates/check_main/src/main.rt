@@ -12,6 +12,7 @@ fn one_case<R: Read, W: Write>(input: &mut R, out: &mut W, space: &mut [u8]) -> 
     let kept = case.kept;
     let number = format::check(&space[..kept]);
     writeln!(out, "{number}")?;
+    out.flush()?;
     Ok(true)
 }
 
