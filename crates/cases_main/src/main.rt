@@ -7,7 +7,7 @@ ghost use Rattle.std.specs.Prelude.{◌≡◌, ◌≤◌, ◌<◌, length};
 
 use rules::{Centipence, Days, Litres, Row, RowsAnswer, StatementAnswer};
 use std::io;
-use std::io::{BufReader, BufWriter, Read, Write};
+use std::io::{Read, Write};
 
 fn print_charges<W: Write>(out: &mut W, charges: [Centipence; 4]) -> io::Result<()> {
     let [meter, volumetric, property, roads] = charges;
@@ -204,7 +204,6 @@ fn one_case<R: Read, W: Write>(
     print_statements(out, file)?;
     let bytes = batch::least(case.bytes, lent.len());
     print_report(out, file, &mut lent[..bytes])?;
-    out.flush()?;
     Ok(true)
 }
 
@@ -223,11 +222,9 @@ fn all_cases<R: Read, W: Write>(
 }
 
 fn main(rt: HostRuntime) -> io::Result<()> {
-    let mut input = BufReader::new(rt.alloc(), rt.stdin())?;
-    let mut out = BufWriter::new(rt.alloc(), rt.stdout())?;
+    let mut input = rt.stdin();
+    let mut out = rt.stdout();
     let mut space = batch::room();
     let mut lent = [0u8; 65536];
-    let ended = all_cases(&mut input, &mut out, &mut space, &mut lent);
-    out.flush()?;
-    ended
+    all_cases(&mut input, &mut out, &mut space, &mut lent)
 }

@@ -1,7 +1,7 @@
 #![tactic(auto)]
 // Prints the number of each file of a batch, a line each.
 use std::io;
-use std::io::{BufReader, BufWriter, Read, Write};
+use std::io::{Read, Write};
 
 // Reads a case and prints its file's number; false where there is none.
 fn one_case<R: Read, W: Write>(input: &mut R, out: &mut W, space: &mut [u8]) -> io::Result<bool> {
@@ -12,7 +12,6 @@ fn one_case<R: Read, W: Write>(input: &mut R, out: &mut W, space: &mut [u8]) -> 
     let kept = case.kept;
     let number = format::check(&space[..kept]);
     writeln!(out, "{number}")?;
-    out.flush()?;
     Ok(true)
 }
 
@@ -26,10 +25,8 @@ fn all_cases<R: Read, W: Write>(input: &mut R, out: &mut W, space: &mut [u8]) ->
 }
 
 fn main(rt: HostRuntime) -> io::Result<()> {
-    let mut input = BufReader::new(rt.alloc(), rt.stdin())?;
-    let mut out = BufWriter::new(rt.alloc(), rt.stdout())?;
+    let mut input = rt.stdin();
+    let mut out = rt.stdout();
     let mut space = batch::room();
-    let ended = all_cases(&mut input, &mut out, &mut space);
-    out.flush()?;
-    ended
+    all_cases(&mut input, &mut out, &mut space)
 }
