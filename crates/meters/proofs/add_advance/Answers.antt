@@ -6,7 +6,9 @@ use Rattle.spans.proofs.Days.{held_room}
 use Rattle.meters.proofs.add_advance.Goals as goal
 
 pub returns-then-to-i : goal.returns-then-to-i
-returns-then-to-i c = record { added = (advance_nowhere _ _ _ _ c.entry-i.ensures c.entry-to.ensures c.requires.cut.0 c.requires.cut.1 c.if-to-i.true c.requires.reached_2).0; reached = (advance_nowhere _ _ _ _ c.entry-i.ensures c.entry-to.ensures c.requires.cut.0 c.requires.cut.1 c.if-to-i.true c.requires.reached_2).1 }
+returns-then-to-i c =
+    let both = advance_nowhere _ _ _ _ c.entry-i.ensures c.entry-to.ensures c.requires.cut.0 c.requires.cut.1 c.if-to-i.true c.requires.reached_2 in
+    record { added = both.0; reached = both.1 }
 
 pub overflow_add-days : goal.overflow_add-days
 overflow_add-days c = omega (arith, advance_day _ _ _ _ c.entry-i.ensures c.entry-to.ensures (omega (arith, c.if-to-i.false)) (le_refl _) (omega (arith, c.if-to-i.false)))
@@ -42,4 +44,6 @@ pub loop-i-preserved : goal.loop-i-preserved
 loop-i-preserved c = advancing_turn c.loop-i.invariant c.span_with-s.ensures c.span_end.ensures c.earlier-stop.ensures c.loop-i-test.true c.carried_before-up.ensures c.add_litres.ensures
 
 pub returns : goal.returns
-returns c = record { added = (advancing_end c.loop-i.invariant c.loop-i-test.false).0; reached = (advancing_end c.loop-i.invariant c.loop-i-test.false).1 }
+returns c =
+    let both = advancing_end c.loop-i.invariant c.loop-i-test.false in
+    record { added = both.0; reached = both.1 }

@@ -15,10 +15,19 @@ pub figures_of-each-requires : goal.figures_of-each-requires
 figures_of-each-requires c = let s = c.args in weights_fit s.file.now s.c.at c.meter-taken.ensures (bands_of s.file.now s.bands.count s.bands.first.at) c.band_for-band.ensures c.requires.good_bands.0.priced c.requires.good_meter.0
 
 pub add_reads-next-requires : goal.add_reads-next-requires
-add_reads-next-requires c = let s = c.args in record { at_bound = (meter_asks s.file.now s.c.at c.meter-taken.ensures (bands_of s.file.now s.bands.count s.bands.first.at) c.band_for-band.ensures c.figures_of-each.ensures s.days.start s.every c.requires.good_meter.1 c.requires.room_with c.requires.at_bound c.requires.good_meter.0).0; good_meter = (meter_asks s.file.now s.c.at c.meter-taken.ensures (bands_of s.file.now s.bands.count s.bands.first.at) c.band_for-band.ensures c.figures_of-each.ensures s.days.start s.every c.requires.good_meter.1 c.requires.room_with c.requires.at_bound c.requires.good_meter.0).1.0; room = (meter_asks s.file.now s.c.at c.meter-taken.ensures (bands_of s.file.now s.bands.count s.bands.first.at) c.band_for-band.ensures c.figures_of-each.ensures s.days.start s.every c.requires.good_meter.1 c.requires.room_with c.requires.at_bound c.requires.good_meter.0).1.1 }
+add_reads-next-requires c =
+    let s = c.args in
+    let all = meter_asks s.file.now s.c.at c.meter-taken.ensures (bands_of s.file.now s.bands.count s.bands.first.at) c.band_for-band.ensures c.figures_of-each.ensures s.days.start s.every c.requires.good_meter.1 c.requires.room_with c.requires.at_bound c.requires.good_meter.0 in
+    record { at_bound = all.0; good_meter = all.1.0; room = all.1.1 }
 
 pub add_during-more-requires : goal.add_during-more-requires
-add_during-more-requires c = let s = c.args in record { cut = (during_asks s.file.now s.c.at c.meter-taken.ensures (bands_of s.file.now s.bands.count s.bands.first.at) c.band_for-band.ensures c.figures_of-each.ensures s.days.start s.every c.requires.good_meter.1 c.requires.room_with (c.add_reads-next.ensures.ends, c.add_reads-next.ensures.grown)).0; room_with = (during_asks s.file.now s.c.at c.meter-taken.ensures (bands_of s.file.now s.bands.count s.bands.first.at) c.band_for-band.ensures c.figures_of-each.ensures s.days.start s.every c.requires.good_meter.1 c.requires.room_with (c.add_reads-next.ensures.ends, c.add_reads-next.ensures.grown)).1 }
+add_during-more-requires c =
+    let s = c.args in
+    let both = during_asks s.file.now s.c.at c.meter-taken.ensures (bands_of s.file.now s.bands.count s.bands.first.at) c.band_for-band.ensures c.figures_of-each.ensures s.days.start s.every c.requires.good_meter.1 c.requires.room_with (c.add_reads-next.ensures.ends, c.add_reads-next.ensures.grown) in
+    record { cut = both.0; room_with = both.1 }
 
 pub returns : goal.returns
-returns c = let s = c.args in record { ends = (meter_added s.file.now s.c.at c.meter-taken.ensures (bands_of s.file.now s.bands.count s.bands.first.at) c.band_for-band.ensures c.figures_of-each.ensures s.days.start s.every c.requires.good_meter.1 c.requires.room_with (c.add_reads-next.ensures.ends, c.add_reads-next.ensures.grown) c.add_during-more.ensures).0; added = (meter_added s.file.now s.c.at c.meter-taken.ensures (bands_of s.file.now s.bands.count s.bands.first.at) c.band_for-band.ensures c.figures_of-each.ensures s.days.start s.every c.requires.good_meter.1 c.requires.room_with (c.add_reads-next.ensures.ends, c.add_reads-next.ensures.grown) c.add_during-more.ensures).1 }
+returns c =
+    let s = c.args in
+    let both = meter_added s.file.now s.c.at c.meter-taken.ensures (bands_of s.file.now s.bands.count s.bands.first.at) c.band_for-band.ensures c.figures_of-each.ensures s.days.start s.every c.requires.good_meter.1 c.requires.room_with (c.add_reads-next.ensures.ends, c.add_reads-next.ensures.grown) c.add_during-more.ensures in
+    record { ends = both.0; added = both.1 }

@@ -29,10 +29,14 @@ pub advance_of-advance-requires : goal.advance_of-advance-requires
 advance_of-advance-requires c = ahead_one c.loop-left.invariant.0 c.loop-left-test.true c.read-taken.ensures (λ rs u. (u.sound, u.each.0, u.advances.0, c.dial_values-dial.ensures))
 
 pub spread_advance-s-requires : goal.spread_advance-s-requires
-spread_advance-s-requires c = record { cut = (ahead_one c.loop-left.invariant.0 c.loop-left-test.true c.read-taken.ensures (λ rs u. reads_ask c.advance_of-advance.ensures u c.loop-left.invariant.1)).0; reached_2 = (ahead_one c.loop-left.invariant.0 c.loop-left-test.true c.read-taken.ensures (λ rs u. reads_ask c.advance_of-advance.ensures u c.loop-left.invariant.1)).1.0; room = (ahead_one c.loop-left.invariant.0 c.loop-left-test.true c.read-taken.ensures (λ rs u. reads_ask c.advance_of-advance.ensures u c.loop-left.invariant.1)).1.1 }
+spread_advance-s-requires c =
+    let all = ahead_one c.loop-left.invariant.0 c.loop-left-test.true c.read-taken.ensures (λ rs u. reads_ask c.advance_of-advance.ensures u c.loop-left.invariant.1) in
+    record { cut = all.0; reached_2 = all.1.0; room = all.1.1 }
 
 pub loop-left-preserved : goal.loop-left-preserved
 loop-left-preserved c = (ahead_turn c.loop-left.invariant.0 c.loop-left-test.true c.read-taken.ensures (λ rs u. reads_turn c.advance_of-advance.ensures u c.spread_advance-s.ensures.added c.spread_advance-s.ensures.reached), c.loop-left.invariant.1)
 
 pub returns : goal.returns
-returns c = record { ends = (reads_done _ _ _ _ _ _ (omega (arith, c.if-head-eq0.false)) c.read-first.ensures (omega arith) c.loop-left.invariant.0).0; grown = (reads_done _ _ _ _ _ _ (omega (arith, c.if-head-eq0.false)) c.read-first.ensures (omega arith) c.loop-left.invariant.0).1 }
+returns c =
+    let both = reads_done _ _ _ _ _ _ (omega (arith, c.if-head-eq0.false)) c.read-first.ensures (omega arith) c.loop-left.invariant.0 in
+    record { ends = both.0; grown = both.1 }

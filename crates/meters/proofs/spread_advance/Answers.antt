@@ -10,4 +10,6 @@ pub add_litres-requires : goal.add_litres-requires
 add_litres-requires c = whole_room _ _ _ _ c.requires.cut.0 c.requires.cut.1 c.requires.reached_2 (c.holds_all.ensures.yes c.if-holds_all.true) c.requires.room
 
 pub returns-then-holds_all : goal.returns-then-holds_all
-returns-then-holds_all c = record { added = (whole_added _ _ _ _ c.requires.cut.0 c.requires.cut.1 c.requires.reached_2 (c.holds_all.ensures.yes c.if-holds_all.true) c.add_litres.ensures).0; reached = (whole_added _ _ _ _ c.requires.cut.0 c.requires.cut.1 c.requires.reached_2 (c.holds_all.ensures.yes c.if-holds_all.true) c.add_litres.ensures).1 }
+returns-then-holds_all c =
+    let both = whole_added _ _ _ _ c.requires.cut.0 c.requires.cut.1 c.requires.reached_2 (c.holds_all.ensures.yes c.if-holds_all.true) c.add_litres.ensures in
+    record { added = both.0; reached = both.1 }

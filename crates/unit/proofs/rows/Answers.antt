@@ -7,13 +7,19 @@ use Rattle.unit.proofs.Tabled.{refused, short, enough}
 use Rattle.unit.proofs.rows.Goals as goal
 
 pub returns-then-judged-ne0 : goal.returns-then-judged-ne0
-returns-then-judged-ne0 c = record { answer = (refused c.args.file.now c.args.table.now _ c.judge-judged.ensures.number c.if-judged-ne0.true).0; after = (refused c.args.file.now c.args.table.now _ c.judge-judged.ensures.number c.if-judged-ne0.true).1 }
+returns-then-judged-ne0 c =
+    let both = refused c.args.file.now c.args.table.now _ c.judge-judged.ensures.number c.if-judged-ne0.true in
+    record { answer = both.0; after = both.1 }
 
 pub returns-then-table-count : goal.returns-then-table-count
-returns-then-table-count c = let judged = c.judge-judged.ensures in let accepted = sym judged.number ∙ c.if-judged-ne0.false in record { answer = (short c.args.file.now c.args.table.now accepted (judged_providers c.args.file.now judged accepted) c.if-table-count.true).0; after = (short c.args.file.now c.args.table.now accepted (judged_providers c.args.file.now judged accepted) c.if-table-count.true).1 }
+returns-then-table-count c = let judged = c.judge-judged.ensures in let accepted = sym judged.number ∙ c.if-judged-ne0.false in
+    let both = short c.args.file.now c.args.table.now accepted (judged_providers c.args.file.now judged accepted) c.if-table-count.true in
+    record { answer = both.0; after = both.1 }
 
 pub rows_into-requires : goal.rows_into-requires
 rows_into-requires c = let judged = c.judge-judged.ensures in let accepted = sym judged.number ∙ c.if-judged-ne0.false in record { file_value = accepted_file c.args.file.now accepted; providers_of = judged_providers c.args.file.now judged accepted; count_in_bounds = omega (arith, c.if-table-count.false) }
 
 pub returns : goal.returns
-returns c = let judged = c.judge-judged.ensures in let accepted = sym judged.number ∙ c.if-judged-ne0.false in record { answer = (enough c.args.file.now c.args.table.now accepted (judged_providers c.args.file.now judged accepted) (omega (arith, c.if-table-count.false)) c.rows_into.ensures.table_after).0; after = (enough c.args.file.now c.args.table.now accepted (judged_providers c.args.file.now judged accepted) (omega (arith, c.if-table-count.false)) c.rows_into.ensures.table_after).1 }
+returns c = let judged = c.judge-judged.ensures in let accepted = sym judged.number ∙ c.if-judged-ne0.false in
+    let both = enough c.args.file.now c.args.table.now accepted (judged_providers c.args.file.now judged accepted) (omega (arith, c.if-table-count.false)) c.rows_into.ensures.table_after in
+    record { answer = both.0; after = both.1 }
