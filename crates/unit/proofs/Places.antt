@@ -6,7 +6,7 @@ use native.Mathlib.Omega.{arith}
 use lib.ListN.{length}
 use Rattle.rules.specs.declared.Header.{Header}
 use Rattle.rules.specs.declared.Statement.{Statement}
-use Rattle.rules.specs.declared.StatementAnswer.{StatementAnswer}
+use Rattle.rules.specs.Services.{StatementAnswer}
 use Rattle.rules.specs.File.{Supply, Point, Tariff, header_at, bands_at, point_at, points, after_point, decode}
 use Rattle.rules.specs.Settlement.{statement}
 use Rattle.rules.specs.Services.{zero_statement, statement_at}

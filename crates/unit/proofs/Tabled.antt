@@ -7,7 +7,7 @@ use lib.ListN.{length, length-map}
 use lib.Dec.{eqb}
 use borrow.Author.Tests.{lt-ltb, le-ltb, ne_eqb}
 use Rattle.rules.specs.declared.Row.{Row}
-use Rattle.rules.specs.declared.RowsAnswer.{RowsAnswer}
+use Rattle.rules.specs.Services.{RowsAnswer}
 use Rattle.rules.specs.Sums.{only}
 use Rattle.rules.specs.File.{decode}
 use Rattle.rules.specs.Refusal.{first_or, refusal}
