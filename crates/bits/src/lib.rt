@@ -12,10 +12,10 @@ pub struct Cursor {
     pub at: usize,
 }
 
-// A field's value, and the cursor after it.
+// What stood at a cursor, a field or a record of several, and the cursor after it.
 #[derive(Clone, Copy)]
-pub struct Taken {
-    pub value: u64,
+pub struct Taken<T> {
+    pub value: T,
     pub next: Cursor,
 }
 
@@ -115,7 +115,7 @@ impl Cursor {
     // The field of a width at the cursor. Eight bytes hold 57 bits, wherever in the first of them these start. Bits past the end are 0, so that
     // a record is read whole before its length is judged. The bits before the field are shifted out first, so that the second shift is by a
     // constant where the width is one. A field of no bits has a case of its own, since a number isn't shifted by all its 64.
-    pub fn take(self, file: &[u8], width: u32) -> Taken
+    pub fn take(self, file: &[u8], width: u32) -> Taken<u64>
         requires { (width ≤ 57) × (self.at + width < 2 ^ 62) }
         ensures { Took file.now self.at width result.value result.next.at }
     {

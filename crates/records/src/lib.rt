@@ -8,38 +8,8 @@ ghost use Rattle.rules.specs.File.{meters, after_meters, point_at, after_point};
 ghost use Rattle.records.specs.Lists.{after_lists};
 ghost use Rattle.records.specs.Conditions.{condition_of};
 
-use bits::{Cursor, cut};
+use bits::{Cursor, Taken, cut};
 use rules::{Band, Condition, Header, MeterHead, PointHead, Read, Transfer};
-
-#[derive(Clone, Copy)]
-pub struct TakenHeader {
-    pub value: Header,
-    pub next: Cursor,
-}
-
-#[derive(Clone, Copy)]
-pub struct TakenBand {
-    pub value: Band,
-    pub next: Cursor,
-}
-
-#[derive(Clone, Copy)]
-pub struct TakenPointHead {
-    pub value: PointHead,
-    pub next: Cursor,
-}
-
-#[derive(Clone, Copy)]
-pub struct TakenTransfer {
-    pub value: Transfer,
-    pub next: Cursor,
-}
-
-#[derive(Clone, Copy)]
-pub struct TakenCondition {
-    pub value: Condition,
-    pub next: Cursor,
-}
 
 // A condition by its two groups of fields, as they stand in the file: day, flags and discounts; rateable value. Two numbers hold what a condition
 // has in eight.
@@ -49,31 +19,13 @@ pub struct Groups {
     pub rateable: u64,
 }
 
-#[derive(Clone, Copy)]
-pub struct TakenGroups {
-    pub value: Groups,
-    pub next: Cursor,
-}
-
-#[derive(Clone, Copy)]
-pub struct TakenMeterHead {
-    pub value: MeterHead,
-    pub next: Cursor,
-}
-
-#[derive(Clone, Copy)]
-pub struct TakenRead {
-    pub value: Read,
-    pub next: Cursor,
-}
-
 // THE READERS
 // Loads are most of what reading costs. So a record is taken in groups of fields that stand side by side, with one load for a group and not for
 // each field, and the fields are cut out of their group. `cut` is given a field's width, as document 01 has it, and how many bits of the group
 // stand after the field.
 
 // The header, which stands first.
-pub fn header(file: &[u8]) -> TakenHeader
+pub fn header(file: &[u8]) -> Taken<Header>
     ensures { (result.value ≡ header_at file.now) × (result.next.at ≡ bands_at) }
 {
     let c = Cursor { at: 0 };
@@ -81,7 +33,7 @@ pub fn header(file: &[u8]) -> TakenHeader
     let prices = opening.next.take(file, 28);
     let rates = prices.next.take(file, 34);
     let next = rates.next;
-    TakenHeader {
+    Taken {
         value: Header {
             mark: cut(opening.value, 16, 29),
             version: cut(opening.value, 4, 25),
@@ -98,14 +50,14 @@ pub fn header(file: &[u8]) -> TakenHeader
     }
 }
 
-pub fn band(file: &[u8], c: Cursor) -> TakenBand
+pub fn band(file: &[u8], c: Cursor) -> Taken<Band>
     requires { c.at < 2 ^ 32 }
     ensures { (result.value ≡ band_at file.now c.at) × (result.next.at ≡ after_band c.at) }
 {
     let charge = c.take(file, 46);
     let limits = charge.next.take(file, 44);
     let next = limits.next;
-    TakenBand {
+    Taken {
         value: Band {
             size: cut(charge.value, 16, 30),
             annual: cut(charge.value, 30, 0),
@@ -117,14 +69,14 @@ pub fn band(file: &[u8], c: Cursor) -> TakenBand
 }
 
 // A point before its lists.
-pub fn point(file: &[u8], c: Cursor) -> TakenPointHead
+pub fn point(file: &[u8], c: Cursor) -> Taken<PointHead>
     requires { c.at < 2 ^ 32 }
     ensures { (result.value ≡ point_head_at file.now c.at) × (result.next.at ≡ transfers_from c.at) }
 {
     let number = c.take(file, 32);
     let days_and_counts = number.next.take(file, 48);
     let next = days_and_counts.next;
-    TakenPointHead {
+    Taken {
         value: PointHead {
             number: number.value,
             connected: cut(days_and_counts.value, 16, 32),
@@ -137,13 +89,13 @@ pub fn point(file: &[u8], c: Cursor) -> TakenPointHead
     }
 }
 
-pub fn transfer(file: &[u8], c: Cursor) -> TakenTransfer
+pub fn transfer(file: &[u8], c: Cursor) -> Taken<Transfer>
     requires { c.at < 2 ^ 32 }
     ensures { (result.value ≡ transfer_at file.now c.at) × (result.next.at ≡ after_transfer c.at) }
 {
     let day_and_provider = c.take(file, 32);
     let next = day_and_provider.next;
-    TakenTransfer {
+    Taken {
         value: Transfer {
             day: cut(day_and_provider.value, 16, 16),
             provider: cut(day_and_provider.value, 16, 0),
@@ -153,14 +105,14 @@ pub fn transfer(file: &[u8], c: Cursor) -> TakenTransfer
 }
 
 // The groups of the condition at a cursor.
-pub fn condition_groups(file: &[u8], c: Cursor) -> TakenGroups
+pub fn condition_groups(file: &[u8], c: Cursor) -> Taken<Groups>
     requires { c.at < 2 ^ 32 }
     ensures { (condition_of result.value ≡ condition_at file.now c.at) × (result.next.at ≡ after_condition c.at) }
 {
     let state = c.take(file, 48);
     let rateable = state.next.take(file, 24);
     let next = rateable.next;
-    TakenGroups {
+    Taken {
         value: Groups {
             state: state.value,
             rateable: rateable.value,
@@ -192,25 +144,25 @@ pub fn condition_of(g: Groups) -> Condition
     }
 }
 
-pub fn condition(file: &[u8], c: Cursor) -> TakenCondition
+pub fn condition(file: &[u8], c: Cursor) -> Taken<Condition>
     requires { c.at < 2 ^ 32 }
     ensures { (result.value ≡ condition_at file.now c.at) × (result.next.at ≡ after_condition c.at) }
 {
     let taken = condition_groups(file, c);
     let value = condition_of(taken.value);
     let next = taken.next;
-    TakenCondition { value, next }
+    Taken { value, next }
 }
 
 // A meter before its reads.
-pub fn meter(file: &[u8], c: Cursor) -> TakenMeterHead
+pub fn meter(file: &[u8], c: Cursor) -> Taken<MeterHead>
     requires { c.at < 2 ^ 32 }
     ensures { (result.value ≡ meter_head_at file.now c.at) × (result.next.at ≡ reads_from c.at) }
 {
     let size = c.take(file, 16);
     let details = size.next.take(file, 56);
     let next = details.next;
-    TakenMeterHead {
+    Taken {
         value: MeterHead {
             size: size.value,
             share: cut(details.value, 7, 49),
@@ -224,13 +176,13 @@ pub fn meter(file: &[u8], c: Cursor) -> TakenMeterHead
     }
 }
 
-pub fn read(file: &[u8], c: Cursor) -> TakenRead
+pub fn read(file: &[u8], c: Cursor) -> Taken<Read>
     requires { c.at < 2 ^ 32 }
     ensures { (result.value ≡ read_at file.now c.at) × (result.next.at ≡ after_read c.at) }
 {
     let whole = c.take(file, 44);
     let next = whole.next;
-    TakenRead {
+    Taken {
         value: Read {
             day: cut(whole.value, 16, 28),
             rollover: cut(whole.value, 1, 27),
