@@ -1,5 +1,5 @@
 -- Where an ascending list takes a number, and what it then is. Assumes nothing.
-use Prim.Native.Nat.{ℕ, zero, suc, ◌+◌, ◌-◌, ◌≤◌, ◌<◌}
+use Prim.Native.Nat.{ℕ, zero, suc, ◌+◌, ◌≤◌, ◌<◌}
 use mathlib.Core.Path.{◌≡◌, refl, ap, sym, ◌∙◌}
 use mathlib.Core.Logic.{⊎_elim, ◌↔◌}
 use mathlib.Core.List.{List, [], ◌∷◌, ◌++◌}
@@ -11,8 +11,8 @@ use Rattle.rules.specs.Lists.{Ascending, insert}
 use Rattle.rules.proofs.Lists.{three, ascends, insert_ascends}
 use Rattle.std.specs.Prelude.{Result, Ok, Err, IsOk, OnOk, OnErr, MatchResult, IsErrAnd}
 use Rattle.arrayvec.specs.ArrayVec.{ArrayVec}
-use Rattle.providers.specs.declared.Breach.{Breach}
-use Rattle.providers.specs.declared.Breach.TheVariants.{ManyProviders}
+use Rattle.rules.specs.declared.Breach.{Breach}
+use Rattle.rules.specs.declared.Breach.TheVariants.{TooManyProviders}
 use Rattle.providers.specs.Listed.{Ascends, Placed, Put}
 
 -- a number goes past those below it
@@ -86,16 +86,16 @@ pub record PutIn {T E : Type 0} (r : Result T E) (grown after : List ℕ) : Type
 
 module _ (before after : ArrayVec ℕ) (p at : ℕ) (up : Ascends before.items (length before.items)) (few : length before.items ≤ 64)
     (placed : Placed before.items (length before.items) p at) (absent : at < length before.items → get_or before.items at 0 ≡ p → ⊥) where
-  pub put_in : {T E : Type 0} (r : Result T E) → IsOk r ↔ (length before.items < 64) → OnOk r (after.items ≡ take at before.items ++ p ∷ drop at before.items) → OnErr r (after ≡ before) →
+  pub put_in : {T E : Type 0} (r : Result T E) → IsOk r ↔ (length before.items < 64) → OnOk r (after.items ≡ take at before.items ++ p ∷ drop at before.items) → OnErr r (after ≡ before) → OnErr r (length before.items ≡ 64) →
       PutIn r (insert p before.items) after.items
-  put_in (Ok x) room ok err =
+  put_in (Ok x) room ok err full =
       let same : after.items ≡ insert p before.items = ok ∙ sym (put before.items p at placed absent) in
       record {
         few = omega (arith, room.0 refl, ap length same, longer before.items p at placed absent);
         ascend = rw same (insert_kept p before.items up);
         put = same;
       }
-  put_in (Err e) room ok err =
+  put_in (Err e) room ok err full =
       record {
         few = rw err few;
         ascend = rw err up;
@@ -104,7 +104,7 @@ module _ (before after : ArrayVec ℕ) (p at : ℕ) (up : Ascends before.items (
 
 -- the library's error is told as the breach
 pub told : {T E : Type 0} (r : Result T E) (s : Result T Breach) (grown after : List ℕ) → MatchResult r (λ _. after ≡ grown) (λ _. 64 < length grown) → (P : E → Breach → Type 0) →
-    ((e : E) (b : Breach) → P e b → b ≡ ManyProviders) → MatchResult r (λ x. s ≡ Ok x) (λ e. IsErrAnd s (P e)) → Put grown after s
+    ((e : E) (b : Breach) → P e b → b ≡ TooManyProviders) → MatchResult r (λ x. s ≡ Ok x) (λ e. IsErrAnd s (P e)) → Put grown after s
 told (Ok x) s grown after is P breach made = rw made is
 told (Err e) (Ok x) grown after over P breach made = absurd made
 told (Err e) (Err b) grown after over P breach made = (breach e b made, over)

@@ -4,7 +4,6 @@ use mathlib.Core.Path.{◌≡◌, refl, ap, ap₂, sym, ◌∙◌, subst}
 use mathlib.Core.List.{List, [], ◌∷◌}
 use native.Mathlib.Omega.{arith}
 use lib.ListN.{length}
-use Rattle.std.specs.Prelude.{Result, Ok, Err, IfOk}
 use Rattle.rules.specs.declared.Header.{Header}
 use Rattle.rules.specs.declared.PointHead.{PointHead}
 use Rattle.rules.specs.declared.Transfer.{Transfer}
@@ -12,13 +11,11 @@ use Rattle.rules.specs.File.{Tariff, Supply, Point, records, header_at, bands_at
 use Rattle.rules.specs.Charges.{charged_from, charged_count}
 use Rattle.rules.specs.Settlement.{insert_days, providers_and, providers_of}
 use Rattle.rules.specs.Good.{FirstBy, GoodPoint, Good}
-use Rattle.bits.specs.declared.Cursor.{Cursor}
 use Rattle.records.proofs.Skip.{transfers_small}
 use Rattle.records.proofs.Walk.{PointsLeft, points_one, points_next, points_start, file_points, year_from_lem, year_to_lem}
 use Rattle.charged.specs.declared.Charged.{Charged}
 use Rattle.charged.specs.Charged.{ChargedOf}
-use Rattle.providers.specs.declared.Breach.{Breach}
-use Rattle.providers.specs.Listed.{Put, point_providers, WithPoint}
+use Rattle.providers.specs.Listed.{point_providers}
 use Rattle.providers.specs.Runs.{SoundTransfers}
 use Rattle.providers.proofs.Days.{days_longer}
 
@@ -106,8 +103,10 @@ module _ (b : List ℕ) where
       unfolding providers_and
       one = sym (ap (providers_and (decode b).tariff list) (points_one b left at h)) ∙ s.whole
 
-      pub listing_next : {next : ℕ} {out : List ℕ} → out ≡ point_providers (decode b).tariff (point_at b at) list → next ≡ after_point at (point_at b at) → Listing year (left - 1) next out
-      listing_next put ends =
+      pub listing_next : {rest next : ℕ} {out : List ℕ} → rest + 1 ≡ left → out ≡ point_providers (decode b).tariff (point_at b at) list → next ≡ after_point at (point_at b at) → Listing year rest next out
+      listing_next {rest} less put ends =
+          let fewer : rest ≡ left - 1 = omega arith in
+          rw fewer
           record {
             is = s.is;
             from = s.from;

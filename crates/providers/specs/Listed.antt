@@ -1,12 +1,12 @@
 -- A list of providers, which ascends, and what is put into it.
-use Rattle.std.specs.Prelude.{ℕ, ◌+◌, ◌≤◌, ◌<◌, cond, ◌≡◌, List, ltb, length, get_or, Result, MatchResult, IfOk}
+use Rattle.std.specs.Prelude.{ℕ, ◌≤◌, ◌<◌, cond, ◌≡◌, List, ltb, length, get_or, Result, MatchResult, IfOk}
 use Rattle.rules.specs.Lists.{insert}
 use Rattle.rules.specs.File.{Tariff, Point, point_at, after_point}
 use Rattle.rules.specs.Charges.{charged_from, charged_count}
 use Rattle.rules.specs.Settlement.{insert_days}
 use Rattle.bits.specs.declared.Cursor.{Cursor}
-use Rattle.providers.specs.declared.Breach.{Breach}
-use Rattle.providers.specs.declared.Breach.TheVariants.{ManyProviders}
+use Rattle.rules.specs.declared.Breach.{Breach}
+use Rattle.rules.specs.declared.Breach.TheVariants.{TooManyProviders}
 
 -- the first `count` numbers ascend
 abbrev pub Ascends : List ℕ → ℕ → Type 0
@@ -20,7 +20,7 @@ pub record Placed (list : List ℕ) (count p at : ℕ) : Type 0 where
 
 -- a list after something was put in: it is the list with it, unless that would have over 64
 abbrev pub Put : {T : Type 0} → List ℕ → List ℕ → Result T Breach → Type 0
-Put grown after r = MatchResult r (λ _. after ≡ grown) (λ e. (e ≡ ManyProviders) × (64 < length grown))
+Put grown after r = MatchResult r (λ _. after ≡ grown) (λ e. (e ≡ TooManyProviders) × (64 < length grown))
 
 -- with the provider of the days of entries `from` .. `to` - 1, if there is one
 abbrev pub insert_run : ℕ → ℕ → ℕ → List ℕ → List ℕ

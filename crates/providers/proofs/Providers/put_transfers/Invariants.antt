@@ -1,6 +1,3 @@
-use Prim.Native.Nat.{ℕ}
-use mathlib.Core.Path.{◌≡◌}
-use Rattle.rules.specs.File.{after_transfer}
 use Rattle.providers.proofs.Days.{Putting}
 use Rattle.providers.proofs.Providers.put_transfers.Given as goal
 
