@@ -1,11 +1,12 @@
 -- What a batch's bytes lose and have left as a case is read. Assumes nothing.
-use Rattle.std.proofs.Common.{◌≡◌, ℕ, ◌+◌, ◌-◌, ◌≤◌, ◌<◌, List, ◌++◌, None, Some, arith, length, true, min, slice_index, refl, sym, ap, ◌∙◌, length-append}
-use Rattle.std.proofs.Math.ListN.{get_or-append}
+use Rattle.std.proofs.Common.{◌≡◌, ℕ, ◌+◌, ◌-◌, ◌≤◌, ◌<◌, List, [], ◌++◌, None, Some, arith, length, take, slice_index, refl, sym, ap, ◌∙◌, length-append, append-nil, take_all}
 use Rattle.std.proofs.Math.Seq.{take-append_seam}
+use Rattle.std.proofs.Math.ListN.{get_or-append}
 use Rattle.std.specs.declared.option.Option.{Option}
 use Rattle.std.specs.Io.KnownBytes.{Consumes, IsAtEnd}
 use Rattle.std.proofs.KnownBytes.{Consumes-trans}
 use Rattle.batch.specs.Batch.{number, Loses, EndsBefore, Reads, NoCase}
+use Rattle.batch.specs.declared.Case.{Case}
 
 -- so many lost, and a part more
 pub loses_more : (o a b : Option (List ℕ)) (count left part : ℕ) (xs : List ℕ) → Loses o a (count - left) → Consumes a b xs → length xs ≡ part → left ≤ count → part ≤ left → Loses o b (count - (left - part))
@@ -32,20 +33,29 @@ pub ends_before : (b : Option (List ℕ)) (rest : ℕ) → IsAtEnd b → 0 < res
 ends_before None rest e h = tt
 ends_before (Some zs) rest e h = omega (arith, ap length e)
 
+-- A space that has no room for more of a file has as much of it as it holds,
+pub held_full : (kept room : ℕ) (xs after waste : List ℕ) → length xs ≡ kept → kept ≡ room → take kept (xs ++ after) ≡ take room (xs ++ waste)
+held_full kept room xs after waste l e =
+    ap (λ n. take n (xs ++ after)) (sym l) ∙ take-append_seam xs after ∙ sym (take-append_seam xs waste) ∙ ap (λ n. take n (xs ++ waste)) (l ∙ e)
+
+-- and so has one that took the whole file.
+pub held_whole : (kept room : ℕ) (xs after : List ℕ) → length xs ≡ kept → kept ≤ room → take kept (xs ++ after) ≡ take room (xs ++ [])
+held_whole kept room xs after l h =
+    ap (λ n. take n (xs ++ after)) (sym l) ∙ take-append_seam xs after ∙ sym (append-nil xs) ∙ sym (take_all room (xs ++ []) (omega (arith, ap length (append-nil xs))))
+
 -- A case is read: its head, what the space took of its file, and what was passed over.
-pub reads_case : (o a n : Option (List ℕ)) (head kept_bytes waste rest : List ℕ) (size kept entries bytes : ℕ) →
+pub reads_case : (o a n : Option (List ℕ)) (head kept_bytes waste : List ℕ) (size room : ℕ) (case : Case) →
     Consumes o a head → Consumes a n (kept_bytes ++ waste) → length head ≡ 12 → size ≡ number head 0 → length (kept_bytes ++ waste) ≡ size →
-    kept ≡ min size (length (kept_bytes ++ rest)) → length kept_bytes ≡ kept → entries ≡ number head 4 → bytes ≡ number head 8 →
-    Reads o n (kept_bytes ++ rest) (record { there = true; kept = kept; entries = entries; bytes = bytes })
-reads_case o a n head kept_bytes waste rest size kept entries bytes c d h s l k m e b =
+    case.file.now ≡ take room (kept_bytes ++ waste) → case.entries ≡ number head 4 → case.bytes ≡ number head 8 →
+    Reads o n room case
+reads_case o a n head kept_bytes waste size room case c d h s l k e b =
     record {
       head = head;
       file = kept_bytes ++ waste;
       lost = Consumes-trans o a n head (kept_bytes ++ waste) c d;
       head_long = h;
       file_long = l ∙ s;
-      kept = k ∙ ap (λ n. min n (length (kept_bytes ++ rest))) (sym l);
-      begins = rw (sym m) (take-append_seam kept_bytes rest ∙ sym (take-append_seam kept_bytes waste));
+      kept = k;
       entries = e;
       bytes = b;
     }

@@ -1,2 +1,3 @@
 mod Parts
 mod Cases
+mod Answered
