@@ -9,5 +9,8 @@ pub extern "C" fn settlement_report(file: &[u8], space: &mut [u8]) -> u64
     ensures answer { result ≡ report_answer file.now (length space.old) }
     ensures after { space.new ≡ report_after file.now space.old }
 {
-    unit::settlement_report(file, space)
+    match unit::settlement_report(file, space) {
+        Ok(length) => length as u64,
+        Err(breach) => breach.number(),
+    }
 }
