@@ -12,7 +12,9 @@ pub struct Count {
 
 impl Sink for Count {
     ghost at = { λ s. s.bytes };
+
     ghost end = { λ s. 2 ^ 64 - 1 };
+
     ghost takes = { λ a t b. b.bytes ≡ a.bytes + length t };
 
     fn text(&mut self, text: &[u8]) {
@@ -27,7 +29,7 @@ impl Sink for Count {
 }
 
 // How many digits a number has: one more than the power of ten that it reaches. 0 has one too.
-pub fn digits(n: u64) -> usize
+pub(crate) fn digits(n: u64) -> usize
     ensures { result ≡ length (decimal n) }
 {
     match n.checked_ilog10() {
