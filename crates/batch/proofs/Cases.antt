@@ -1,5 +1,5 @@
 -- What a batch's bytes lose and have left as a case is read. Assumes nothing.
-use Rattle.std.proofs.Common.{◌≡◌, ℕ, ◌+◌, ◌-◌, ◌≤◌, ◌<◌, List, [], ◌++◌, None, Some, arith, length, take, slice_index, refl, sym, ap, ◌∙◌, length-append, append-nil, take_all}
+use Rattle.std.proofs.Common.{◌≡◌, ℕ, ◌+◌, ◌-◌, ◌≤◌, ◌<◌, List, [], ◌∷◌, ◌++◌, None, Some, arith, length, take, min, slice_index, subst, refl, sym, ap, ◌∙◌, length-append, append-nil, take_all}
 use Rattle.std.proofs.Math.Seq.{take-append_seam}
 use Rattle.std.proofs.Math.ListN.{get_or-append}
 use Rattle.std.specs.declared.option.Option.{Option}
@@ -33,15 +33,17 @@ pub ends_before : (b : Option (List ℕ)) (rest : ℕ) → IsAtEnd b → 0 < res
 ends_before None rest e h = tt
 ends_before (Some zs) rest e h = omega (arith, ap length e)
 
--- A space that has no room for more of a file has as much of it as it holds,
-pub held_full : (kept room : ℕ) (xs after waste : List ℕ) → length xs ≡ kept → kept ≡ room → take kept (xs ++ after) ≡ take room (xs ++ waste)
-held_full kept room xs after waste l e =
-    ap (λ n. take n (xs ++ after)) (sym l) ∙ take-append_seam xs after ∙ sym (take-append_seam xs waste) ∙ ap (λ n. take n (xs ++ waste)) (l ∙ e)
+-- a part that was read whole is what was lost
+pub lost_whole : (o a : Option (List ℕ)) (n : ℕ) (xs : List ℕ) → length xs ≤ n → Consumes o a (take n xs) → Consumes o a xs
+lost_whole o a n xs h c = subst (Consumes o a) (take_all n xs h) c
 
--- and so has one that took the whole file.
-pub held_whole : (kept room : ℕ) (xs after : List ℕ) → length xs ≡ kept → kept ≤ room → take kept (xs ++ after) ≡ take room (xs ++ [])
-held_whole kept room xs after l h =
-    ap (λ n. take n (xs ++ after)) (sym l) ∙ take-append_seam xs after ∙ sym (append-nil xs) ∙ sym (take_all room (xs ++ []) (omega (arith, ap length (append-nil xs))))
+-- A space that took a file's first bytes, all of them or as many as it had room for, has as much of the file as it holds.
+pub held : (kept room : ℕ) (xs after waste : List ℕ) → length xs ≡ kept → kept ≡ min (length (xs ++ waste)) room → take kept (xs ++ after) ≡ take room (xs ++ waste)
+held kept room xs after [] l h =
+    ap (λ n. take n (xs ++ after)) (sym l) ∙ take-append_seam xs after ∙ sym (append-nil xs) ∙ sym (take_all room (xs ++ []) (omega (arith, length-append xs [])))
+held kept room xs after (w ∷ ws) l h =
+    let full : kept ≡ room = omega (arith, length-append xs (w ∷ ws)) in
+    ap (λ n. take n (xs ++ after)) (sym l) ∙ take-append_seam xs after ∙ sym (take-append_seam xs (w ∷ ws)) ∙ ap (λ n. take n (xs ++ (w ∷ ws))) (l ∙ full)
 
 -- A case is read: its head, what the space took of its file, and what was passed over.
 pub reads_case : (o a n : Option (List ℕ)) (head kept_bytes waste : List ℕ) (size room : ℕ) (case : Case) →

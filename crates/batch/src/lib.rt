@@ -88,7 +88,7 @@ pub fn next_case<'a, R: Read>(input: &mut R, space: &'a mut [u8]) -> io::Result<
     if m < kept {
         return Ok(None);
     }
-    if size > kept && !passed_over(input, size - kept)? {
+    if !passed_over(input, size - kept)? {
         return Ok(None);
     }
     Ok(Some(Case {

@@ -6,22 +6,16 @@ ghost use Rattle.std.specs.Prelude.{◌≤◌, length};
 use std::io;
 use std::io::Write;
 
-fn print_refusal<W: Write>(out: &mut W, space: &mut [u8], number: u64) -> io::Result<()>
-    requires { 32 ≤ length space.old }
-{
-    let end = report::write_refusal(space, number);
-    out.write_all(&space[..end])
-}
-
 // No report is under 52 bytes, and no refusal's number over 14.
 fn print_report<W: Write>(out: &mut W, file: &[u8], space: &mut [u8]) -> io::Result<()>
     requires { 32 ≤ length space.old }
 {
     let answer = unit::settlement_report(file, space);
-    if answer < 52 {
-        return print_refusal(out, space, answer);
-    }
-    let end = answer as usize;
+    let end = if answer < 52 {
+        report::write_refusal(space, answer)
+    } else {
+        answer as usize
+    };
     out.write_all(&space[..end])
 }
 

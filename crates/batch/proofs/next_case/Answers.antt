@@ -1,9 +1,8 @@
-use Rattle.std.proofs.Common.{arith, ◌≡◌, ◌-◌, [], length, take, drop, ◌∙◌, sym, ap, subst, length-take-le, length-append, append-nil, take_all}
+use Rattle.std.proofs.Common.{arith, ◌≡◌, ◌-◌, ◌++◌, length, take, drop, ◌∙◌, sym, ap, length-take-le, length-append}
 use Rattle.std.specs.Io.KnownBytes.{Consumes}
 use Rattle.std.proofs.KnownBytes.{Consumes-trans}
-use Rattle.batch.proofs.Cases.{no_file, ends_before, held_full, held_whole, reads_case}
+use Rattle.batch.proofs.Cases.{no_file, ends_before, lost_whole, held, reads_case}
 use Rattle.batch.proofs.next_case.Goals as goal
-use Rattle.batch.proofs.next_case.Goals.{else-size-kept-via-then-size-kept+in_ok-passed_over+else-not-branch, else-size-kept-via-else-size-kept}
 
 pub returns-then-m-kept-clause-none : goal.returns-then-m-kept-clause-none
 returns-then-m-kept-clause-none g c _ =
@@ -14,7 +13,7 @@ returns-then-m-kept-clause-none g c _ =
     let kept = length-take-le c.min-kept.result c.args.space.now (omega (arith, c.min-kept.ensures)) in
     let read = length-take-le m.m c.read_full-2.new.space m.ensures.within in
     no_file _ _ _ head (take m.m c.read_full-2.new.space) 1 c.number_at-size.result
-    (subst (Consumes _ _) (take_all n.n head (omega (arith, whole, c.if-n-lt12.false))) n.ensures.bytes)
+    (lost_whole _ _ n.n head (omega (arith, whole, c.if-n-lt12.false)) n.ensures.bytes)
     m.ensures.bytes
     (ends_before _ 1 (m.ensures.end (omega (arith, m.ensures.same_length, kept, c.if-m-kept.true))) (omega arith))
     whole
@@ -30,11 +29,11 @@ returns-then-not-branch-clause-none g c _ =
     let kept = length-take-le c.min-kept.result c.args.space.now (omega (arith, c.min-kept.ensures)) in
     let read = length-take-le m.m c.read_full-2.new.space m.ensures.within in
     no_file _ _ _ head (take m.m c.read_full-2.new.space) (c.number_at-size.result - c.min-kept.result) c.number_at-size.result
-    (subst (Consumes _ _) (take_all n.n head (omega (arith, whole, c.if-n-lt12.false))) n.ensures.bytes)
+    (lost_whole _ _ n.n head (omega (arith, whole, c.if-n-lt12.false)) n.ensures.bytes)
     m.ensures.bytes
     (c.in_ok-passed_over.ensures.ended c.if-not-branch.true)
     whole
-    (omega (arith, read, kept, m.ensures.within, m.ensures.same_length, c.if-size-kept.true))
+    (omega (arith, read, kept, m.ensures.within, m.ensures.same_length, c.if-m-kept.false, c.min-kept.ensures))
     c.number_at-size.ensures
 
 pub returns-clause-read : goal.returns-clause-read
@@ -46,22 +45,14 @@ returns-clause-read g c =
     let file = c.read_full-2.new.space in
     let kept = length-take-le c.min-kept.result c.args.space.now (omega (arith, c.min-kept.ensures)) in
     let long : length file ≡ c.min-kept.result = m.ensures.same_length ∙ kept in
-    let lost_head = subst (Consumes _ _) (take_all n.n head (omega (arith, whole, c.if-n-lt12.false))) n.ensures.bytes in
-    let lost_file = subst (Consumes _ _) (take_all m.m file (omega (arith, long, c.if-m-kept.false))) m.ensures.bytes in
-    let after = drop c.min-kept.result c.args.space.now in
-    elim c.else-size-kept.branch [
-      | else-size-kept-via-then-size-kept+in_ok-passed_over+else-not-branch w ↦
-          let lost = w.in_ok-passed_over.ensures.passed w.if-not-branch.false in
-          rw w.input-is
-          (reads_case _ _ _ head file lost.0 c.number_at-size.result (length c.args.space.now) _
-          lost_head (Consumes-trans _ _ _ file lost.0 lost_file lost.1) whole c.number_at-size.ensures
-          (omega (arith, length-append file lost.0, lost.2, long, w.if-size-kept.true))
-          (held_full c.min-kept.result (length c.args.space.now) file after lost.0 long (omega (arith, w.if-size-kept.true, c.min-kept.ensures))) c.number_at.ensures c.number_at-2.ensures)
-      | else-size-kept-via-else-size-kept w ↦
-          rw w.input-is
-          (reads_case _ _ _ head file [] c.number_at-size.result (length c.args.space.now) _
-          lost_head (subst (Consumes _ _) (sym (append-nil file)) lost_file) whole c.number_at-size.ensures
-          (omega (arith, ap length (append-nil file), long, w.if-size-kept.false, c.min-kept.ensures))
-          (held_whole c.min-kept.result (length c.args.space.now) file after long (omega (arith, c.min-kept.ensures)))
-          c.number_at.ensures c.number_at-2.ensures)
-    ]
+    let lost = c.in_ok-passed_over.ensures.passed c.if-not-branch.false in
+    let all : length (file ++ lost.0) ≡ c.number_at-size.result = omega (arith, length-append file lost.0, lost.2, long, c.min-kept.ensures) in
+    reads_case _ _ _ head file lost.0 c.number_at-size.result (length c.args.space.now) _
+    (lost_whole _ _ n.n head (omega (arith, whole, c.if-n-lt12.false)) n.ensures.bytes)
+    (Consumes-trans _ _ _ file lost.0 (lost_whole _ _ m.m file (omega (arith, long, c.if-m-kept.false)) m.ensures.bytes) lost.1)
+    whole
+    c.number_at-size.ensures
+    all
+    (held c.min-kept.result (length c.args.space.now) file (drop c.min-kept.result c.args.space.now) lost.0 long (omega (arith, all, c.min-kept.ensures)))
+    c.number_at.ensures
+    c.number_at-2.ensures
