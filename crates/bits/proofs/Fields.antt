@@ -2,10 +2,10 @@
 use Prim.Native.Nat.{ℕ, zero, suc, ◌+◌, ◌-◌, ◌*◌, ◌/◌, ◌%◌, ◌^◌, ◌<◌, ◌≤◌}
 use mathlib.Core.Path.{◌≡◌, sym, ◌∙◌, ap, ap₂, subst}
 use mathlib.Core.List.{List}
-use native.Mathlib.Nat.{one-mul, mod-eq_of_lt, lt_of_lt_of_le}
+use native.Mathlib.Nat.{lt_of_lt_of_le}
 use native.Mathlib.Omega.{arith}
 use lib.ListN.{get_or}
-use lib.Pow.{field as digits, pow_pos, pow-lt, pow_mono, shl-shr, shr-shr}
+use lib.Pow.{field as digits, pow_mono, shl-shr, shr-shr}
 use Rattle.rules.specs.Field.{field}
 use Rattle.rules.proofs.Fields.{field_lt, field_split, field_part}
 use Rattle.bits.specs.Bytes.{big_endian}
@@ -55,13 +55,6 @@ field_eight b k {b0} {b1} {b2} {b3} {b4} {b5} {b6} {b7} p0 p1 p2 p3 p4 p5 p6 p7 
     let four = field_more b k 3 (field_more b k 2 two p2) p3 in
     let six = field_more b k 5 (field_more b k 4 four p4) p5 in
     horner ∙ field_more b k 7 (field_more b k 6 six p6) p7
-
--- `1u64 << w`
-pub one_shl : (w : ℕ) → w < 64 → 1 * 2 ^ w % 2 ^ 64 ≡ 2 ^ w
-one_shl w h = rw one-mul (mod-eq_of_lt (pow-lt h))
-
-pub one_shl_pos : (w : ℕ) → w < 64 → 0 < 1 * 2 ^ w % 2 ^ 64
-one_shl_pos w h = rw (one_shl w h) (pow_pos w)
 
 -- bits shifted out at the front, and then t at the end
 shifted : (n skip w t : ℕ) → n * 2 ^ skip % 2 ^ (w + (skip + t)) / 2 ^ (skip + t) ≡ n / 2 ^ t % 2 ^ w

@@ -7,13 +7,13 @@ ghost use Rattle.bits.specs.CutOut.{CutOut};
 ghost use Rattle.bits.specs.Bytes.{Turned};
 
 // A position in a file, in bits.
-#[derive(Clone, Copy)]
+#[derive(Clone, Copy, PartialEq, Eq)]
 pub struct Cursor {
     pub at: usize,
 }
 
 // What stood at a cursor, a field or a record of several, and the cursor after it.
-#[derive(Clone, Copy)]
+#[derive(Clone, Copy, PartialEq, Eq)]
 pub struct Taken<T> {
     pub value: T,
     pub next: Cursor,
@@ -31,11 +31,7 @@ fn byte_there(file: &[u8], i: usize) -> u64
 fn byte(file: &[u8], i: usize) -> u64
     ensures { (result ≡ get_or file.now i 0) × (result < 256) }
 {
-    if i < file.len() {
-        byte_there(file, i)
-    } else {
-        0
-    }
+    file.get(i).copied().unwrap_or(0) as u64
 }
 
 // A number with its eight bytes in the other order.

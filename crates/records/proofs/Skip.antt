@@ -1,5 +1,5 @@
 -- Passing over a point's lists: fixed widths by their count, and meters one by one. Assumes nothing.
-use Prim.Native.Nat.{ℕ, zero, suc, ◌+◌, ◌-◌, ◌*◌, ◌^◌, ◌≤◌, ◌<◌}
+use Prim.Native.Nat.{ℕ, suc, ◌+◌, ◌*◌, ◌^◌, ◌≤◌, ◌<◌}
 use mathlib.Core.Path.{◌≡◌, sym, ap, ap₂, ◌∙◌}
 use mathlib.Core.List.{List}
 use native.Mathlib.Omega.{arith}
@@ -13,14 +13,10 @@ module _ (b : List ℕ) where
   pub meters_ahead : (n at : ℕ) → at ≤ after_meters at (meters b n at)
   meters_ahead n at = forward meter_forward at (meters b n at)
 
-  meters_one : (n at : ℕ) → 0 < n →
-      let next = after_meter at (meter_at b at) in after_meters next (meters b (n - 1) next) ≡ after_meters at (meters b n at)
+  meters_one : (n at : ℕ) {n₁ : ℕ} → n₁ ≡ suc n →
+      let next = after_meter at (meter_at b at) in after_meters next (meters b n next) ≡ after_meters at (meters b n₁ at)
   unfolding records after
-  meters_one zero at h = absurd (omega arith)
-  meters_one (suc n) at h =
-      let next = after_meter at (meter_at b at) in
-      let less : suc n - 1 ≡ n = omega arith in
-      ap (λ k. after_meters next (meters b k next)) less
+  meters_one n at e = sym (ap (λ k. after_meters at (meters b k at)) e)
 
   -- the meters that are left at a position end where all do
   pub record MetersLeft (left at end : ℕ) : Type 0 where
@@ -36,14 +32,14 @@ module _ (b : List ℕ) where
     meters_done h = let e : left ≡ 0 = omega arith in sym (ap (λ k. after_meters at (meters b k at)) e) ∙ m.rest
 
     -- past a meter and its reads, the count of which is its last field
-    module _ {count next : ℕ} (h : 0 < left) (t : Took b (at + 66) 6 count next) where
+    module _ {count next : ℕ} (fewer : ℕ) (h : left ≡ suc fewer) (t : Took b (at + 66) 6 count next) where
       past : next + count * 44 ≡ after_meter at (meter_at b at)
       past =
           ap₂ (λ (p n : ℕ). p + n * 44) {v = (meter_head_at b at).reads} (t.after ∙ omega arith) t.is
           ∙ sym (records_wide 44 (read_at b) (meter_head_at b at).reads (reads_from at))
 
-      pub meter_past : MetersLeft (left - 1) (next + count * 44) end
-      meter_past = record { rest = ap (λ p. after_meters p (meters b (left - 1) p)) past ∙ (meters_one left at h ∙ m.rest); small = m.small }
+      pub meter_past : MetersLeft fewer (next + count * 44) end
+      meter_past = record { rest = ap (λ p. after_meters p (meters b fewer p)) past ∙ (meters_one fewer at h ∙ m.rest); small = m.small }
 
   -- past a point's conditions
   pub lists_from : (at : ℕ) (head : PointHead) → let from = at + head.conditions * 72 in after_meters from (meters b head.meters from) ≡ after_lists b at head

@@ -13,10 +13,36 @@ use rules::{Band, Condition, Header, MeterHead, PointHead, Read, Transfer};
 
 // A condition by its two groups of fields, as they stand in the file: day, flags and discounts; rateable value. Two numbers hold what a condition
 // has in eight.
-#[derive(Clone, Copy)]
+#[derive(Clone, Copy, PartialEq, Eq)]
 pub struct Groups {
     pub state: u64,
     pub rateable: u64,
+}
+
+impl Groups {
+    // The day of the condition.
+    pub fn day(self) -> u64
+        ensures { result ≡ (condition_of self).day }
+    {
+        cut(self.state, 16, 32)
+    }
+}
+
+impl From<Groups> for Condition {
+    ghost from_gives = { λ g c. c ≡ condition_of g };
+
+    fn from(g: Groups) -> Condition {
+        Condition {
+            day: g.day(),
+            vacant: cut(g.state, 1, 31),
+            disconnected: cut(g.state, 1, 30),
+            property: cut(g.state, 1, 29),
+            roads: cut(g.state, 1, 28),
+            schedule3: cut(g.state, 14, 14),
+            section29e: cut(g.state, 14, 0),
+            rateable: g.rateable,
+        }
+    }
 }
 
 // THE READERS
@@ -121,35 +147,12 @@ pub fn condition_groups(file: &[u8], c: Cursor) -> Taken<Groups>
     }
 }
 
-// The day of a condition.
-pub fn condition_day(g: Groups) -> u64
-    ensures { result ≡ (condition_of g).day }
-{
-    cut(g.state, 16, 32)
-}
-
-// The condition of its groups.
-pub fn condition_of(g: Groups) -> Condition
-    ensures { result ≡ condition_of g }
-{
-    Condition {
-        day: cut(g.state, 16, 32),
-        vacant: cut(g.state, 1, 31),
-        disconnected: cut(g.state, 1, 30),
-        property: cut(g.state, 1, 29),
-        roads: cut(g.state, 1, 28),
-        schedule3: cut(g.state, 14, 14),
-        section29e: cut(g.state, 14, 0),
-        rateable: g.rateable,
-    }
-}
-
 pub fn condition(file: &[u8], c: Cursor) -> Taken<Condition>
     requires { c.at < 2 ^ 32 }
     ensures { (result.value ≡ condition_at file.now c.at) × (result.next.at ≡ after_condition c.at) }
 {
     let taken = condition_groups(file, c);
-    let value = condition_of(taken.value);
+    let value = Condition::from(taken.value);
     let next = taken.next;
     Taken { value, next }
 }
@@ -198,13 +201,11 @@ fn after_meters(file: &[u8], c: Cursor, count: u64) -> Cursor
     ensures { result.at ≡ after_meters c.at (meters file.now count c.at) }
 {
     let mut at = c.at;
-    let mut left = count;
-    while 0 < left {
+    for _ in 0..count {
         let count_at = Cursor { at: at + 66 };
         let taken = count_at.take(file, 6);
         let reads = taken.value as usize;
         at = taken.next.at + reads * 44;
-        left -= 1;
     }
     Cursor { at }
 }

@@ -3,4 +3,4 @@ use mathlib.Core.Path.{◌∙◌}
 use Rattle.records.proofs.condition.Goals as goal
 
 pub returns : goal.returns
-returns c = (c.condition_of-value.ensures ∙ c.condition_groups-taken.ensures.0, c.condition_groups-taken.ensures.1)
+returns c = (c.from-value.ensures ∙ c.condition_groups-taken.ensures.0, c.condition_groups-taken.ensures.1)

@@ -1,6 +1,6 @@
--- `records::condition_day` meets its contract. Assumes nothing.
+-- `records::Groups::day` meets its contract. Assumes nothing.
 use Rattle.records.specs.Conditions.{condition_of}
-use Rattle.records.proofs.condition_day.Goals as goal
+use Rattle.records.proofs.Groups.day.Goals as goal
 
 pub returns : goal.returns
 unfolding condition_of
