@@ -5,10 +5,8 @@
 // was written. At most 80 entries and 65,536 bytes are lent, whatever the batch asks.
 use batch::Case;
 use rules::{Centipence, Days, Litres, Row};
-use std::array;
-use std::fmt;
-use std::io;
 use std::io::Write;
+use std::{array, fmt, io};
 
 // Four charges as a line has them.
 #[derive(Clone, Copy)]
@@ -17,11 +15,7 @@ struct Charges([Centipence; 4]);
 impl fmt::Display for Charges {
     fn fmt<W: fmt::Write>(&self, f: &mut fmt::Formatter<W>) -> fmt::Result {
         let [meter, volumetric, property, roads] = self.0;
-        write!(
-            f,
-            "{} {} {} {}",
-            meter.0, volumetric.0, property.0, roads.0
-        )
+        write!(f, "{} {} {} {}", meter.0, volumetric.0, property.0, roads.0)
     }
 }
 
@@ -103,8 +97,11 @@ fn print_statements<W: Write>(out: &mut W, case: Case) -> io::Result<()> {
 
 // No report is under 52 bytes, and no refusal's number over 14.
 fn print_report<W: Write>(out: &mut W, case: Case) -> io::Result<()> {
-    let mut space: [u8; BYTES] = array::from_fn(byte_found);
+    let mut space = [0u8; BYTES];
     let lent = &mut space[..case.bytes.min(BYTES)];
+    for (place, byte) in lent.iter_mut().enumerate() {
+        *byte = byte_found(place);
+    }
     let answer = unit::settlement_report(case.file, lent);
     let end = if answer < 52 { 0 } else { answer as usize };
     let kept = kept_from(lent, end, byte_found);

@@ -1,5 +1,4 @@
-use Rattle.std.proofs.Common.{arith, ◌≡◌, ◌-◌, ◌++◌, length, take, drop, ◌∙◌, sym, ap, length-take-le, length-append}
-use Rattle.std.specs.Io.KnownBytes.{Consumes}
+use Rattle.std.proofs.Common.{arith, ◌≡◌, ◌-◌, ◌++◌, length, take, drop, ◌∙◌, length-take-le, length-append}
 use Rattle.std.proofs.KnownBytes.{Consumes-trans}
 use Rattle.batch.proofs.Cases.{no_file, ends_before, lost_whole, held, reads_case}
 use Rattle.batch.proofs.next_case.Goals as goal
