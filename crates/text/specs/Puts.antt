@@ -1,4 +1,4 @@
--- The laws of `Put`: nothing, a byte or two are written, and writes one after another are one write. Assumes nothing.
+-- The laws of `Put`: writes one after another are one write, and what was written from its end back. Assumes nothing.
 use mathlib.Core.Path.{◌≡◌, refl, sym, ap, ◌∙◌, subst}
 use mathlib.Core.List.{List, [], ◌∷◌, ◌++◌, append_assoc, append-nil}
 use Prim.Native.Nat.{ℕ, ◌+◌, ◌≤◌, ◌<◌}
@@ -6,19 +6,10 @@ use native.Mathlib.Numerals.{add-one}
 use native.Mathlib.Omega.{arith}
 use lib.ListN.{length, take, drop, set, length-append, length-set, take-append-drop}
 use lib.Seq.{set_split, take_at, drop_at, drop-drop, length-take-le, append_snoc}
-use Rattle.text.specs.Written.{Put}
+use Rattle.text.specs.Written.{Put, Taken}
 
 pub put_none : (e : List ℕ) (at : ℕ) → at ≤ length e → Put e at [] e at
 put_none e at h = record { room = h; ends = omega arith; long = refl; written = rw append-nil (sym (take-append-drop at e)) }
-
-pub put_byte : (e : List ℕ) (k v : ℕ) → k < length e → Put e k (v ∷ []) (set e k v) (k + 1)
-put_byte e k v h =
-    record {
-      room = omega arith;
-      ends = refl;
-      long = length-set e k v;
-      written = rw (add-one, append_snoc) (set_split e k v h);
-    }
 
 -- two writes, the second where the first ended
 pub put_then : {e m x s t : List ℕ} {at k end : ℕ} → Put e at s m k → Put m k t x end → Put e at (s ++ t) x end
@@ -42,5 +33,31 @@ pub put_as : {e x s t : List ℕ} {at k end : ℕ} → Put e at s x end → s �
 put_as {e} {x} {s} {t} {at} {k} {end} p q r =
     subst (λ (n : ℕ). Put e at t x n) r (subst (λ (l : List ℕ). Put e at l x end) q p)
 
-pub put_pair : (e : List ℕ) (k v w : ℕ) → k + 2 ≤ length e → Put e k (v ∷ w ∷ []) (set (set e k v) (k + 1) w) (k + 2)
-put_pair e k v w h = put_as (put_then (put_byte e k v (omega arith)) (put_byte (set e k v) (k + 1) w (simp length-set (omega arith)))) refl (omega arith)
+-- what stands at the front and behind it
+pub put_parts : (e x s : List ℕ) (at end : ℕ) → at + length s ≡ end → end ≤ length e → length x ≡ length e → take at x ≡ take at e → drop at x ≡ s ++ drop end e → Put e at s x end
+put_parts e x s at end h room long before behind =
+    record {
+      room = room;
+      ends = sym h;
+      long = long;
+      written = sym (take-append-drop at x) ∙ rw (before, behind) (sym (append_assoc (take at e) s (drop end e)));
+    }
+
+-- two lengths added are that of both texts
+pub counts_on : (a b c : ℕ) (s t : List ℕ) → b ≡ a + length s → c ≡ b + length t → c ≡ a + length (s ++ t)
+counts_on a b c s t p q = omega (arith, length-append s t)
+
+-- whatever takes two texts one after another has taken one text
+pub taken_then : {S : Type 0} {at end : S → ℕ} {takes : S → List ℕ → S → Type 0} {a b c : S} {s t : List ℕ} →
+    ((a b c : S) (s t : List ℕ) → takes a s b → takes b t c → takes a (s ++ t) c) →
+    Taken at end takes a s b →
+    Taken at end takes b t c →
+    Taken at end takes a (s ++ t) c
+taken_then {S} {at} {end} {takes} {a} {b} {c} {s} {t} goes_on p q =
+    record {
+      further = omega (arith, p.further, q.further, length-append s t);
+      as_far = q.as_far ∙ p.as_far;
+      whole = goes_on a b c s t p.whole q.whole;
+    }
+
+pub ruleset sizes = (length-append)
