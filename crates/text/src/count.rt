@@ -5,6 +5,7 @@ ghost use Rattle.text.specs.Puts.{counts_on};
 
 use crate::Sink;
 
+#[derive(Drop)]
 pub struct Count {
     pub bytes: usize,
 }

@@ -1,17 +1,24 @@
--- Two writes one after another.
-use Rattle.std.proofs.Common.{arith, length-append}
-use Rattle.rules.specs.Report.{report_of}
-use Rattle.text.proofs.Puts.{put_then}
+-- One block more at each turn.
+use Rattle.std.proofs.Common.{◌<◌, sym, ap, rules, arith, length, length-append, append-nil}
+use Rattle.rules.specs.Report.{blocks, report_of}
+use Rattle.text.specs.Puts.{taken_then}
+use Rattle.report.proofs.Rows.{blocks_more, block_within}
 use Rattle.report.proofs.put_report.Goals as goal
 
-pub put_heading-at-requires : goal.put_heading-at-requires
-unfolding report_of
-put_heading-at-requires c = omega (arith, simp length-append at c.requires.rows_in_bounds)
+pub loop-row-init : goal.loop-row-init
+unfolding blocks
+loop-row-init g c = rw append-nil c.put_heading.ensures
 
-pub put_blocks-requires-clause-rows_in_bounds : goal.put_blocks-requires-clause-rows_in_bounds
+pub put_block-requires-clause-room : goal.put_block-requires-clause-room
 unfolding report_of
-put_blocks-requires-clause-rows_in_bounds c = omega (arith, simp length-append at c.requires.rows_in_bounds)
+put_block-requires-clause-room g c =
+    let rows = c.args.rows.now in
+    let k = c.loop-row.row-index in
+    let within = block_within rows k (omega arith) in
+    simp length-append at c.requires.room (omega arith)
 
-pub returns : goal.returns
-unfolding report_of
-returns c = put_then c.put_heading-at.ensures c.put_blocks.ensures
+pub loop-row-preserved : goal.loop-row-preserved
+loop-row-preserved g c =
+    let more = blocks_more c.args.rows.now c.loop-row.row-index (omega arith) in
+    let taken = taken_then g.met.S.Sink.goes_on c.loop-row.invariant c.put_block.ensures in
+    rw (more, ← append_assoc) taken

@@ -1,15 +1,10 @@
 -- A number has at most 20 digits, so the line fits.
 use Rattle.std.proofs.Common.{rules, arith, length-append}
 use Rattle.rules.specs.Text.{text}
-use Rattle.rules.specs.Report.{field, refused}
 use Rattle.text.specs.Written.{single}
 use Rattle.text.proofs.Decimal.{length_most}
 use Rattle.report.proofs.write_refusal.Goals as goal
 
-pub put_single-requires : goal.put_single-requires
-unfolding refused field single text
-put_single-requires c = simp length-append (omega (arith, length_most c.args.number (search rules)))
-
-pub returns : goal.returns
-unfolding refused field single text
-returns c = c.put_single.ensures
+pub single-requires : goal.single-requires
+unfolding single text
+single-requires c = simp length-append (omega (arith, length_most c.args.number (search rules)))
