@@ -1,5 +1,5 @@
 -- One block more at each turn.
-use Rattle.std.proofs.Common.{◌<◌, sym, ap, rules, arith, length, length-append, append-nil}
+use Rattle.std.proofs.Common.{arith, length-append, append_assoc, append-nil}
 use Rattle.rules.specs.Report.{blocks, report_of}
 use Rattle.text.specs.Puts.{taken_then}
 use Rattle.report.proofs.Rows.{blocks_more, block_within}
@@ -15,7 +15,7 @@ put_block-requires-clause-room g c =
     let rows = c.args.rows.now in
     let k = c.loop-row.row-index in
     let within = block_within rows k (omega arith) in
-    simp length-append at c.requires.room (omega arith)
+    omega (arith, simp length-append at c.requires.room, simp length-append at c.loop-row.invariant.further)
 
 pub loop-row-preserved : goal.loop-row-preserved
 loop-row-preserved g c =
