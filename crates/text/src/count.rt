@@ -27,7 +27,7 @@ impl Sink for Count {
 }
 
 // How many digits a number has: one more than the power of ten that it reaches. 0 has one too.
-pub fn digits(n: u64) -> usize
+pub(crate) fn digits(n: u64) -> usize
     ensures { result ≡ length (decimal n) }
 {
     match n.checked_ilog10() {

@@ -30,10 +30,10 @@ impl<'a> Sink for Space<'a> {
     ghost takes = { λ a t b. Put a.bytes.now a.at t b.bytes.now b.at × (b.bytes.ghost_name ≡ a.bytes.ghost_name) };
 
     fn text(&mut self, text: &[u8]) {
-        let end = self.at + text.len();
+        let after = self.at + text.len();
         let space = &mut *self.bytes;
-        space[self.at..end].copy_from_slice(text);
-        self.at = end;
+        space[self.at..after].copy_from_slice(text);
+        self.at = after;
     }
 
     fn number(&mut self, n: u64) {
