@@ -1,6 +1,6 @@
 -- The laws of `decimal`: its digits one by one, that they are the library's, and how many there are. Assumes nothing.
 use mathlib.Core.Path.{◌≡◌, refl, sym, ap, ◌∙◌}
-use mathlib.Core.List.{List, [], ◌∷◌, ◌++◌, append_assoc}
+use mathlib.Core.List.{List, [], ◌∷◌, ◌++◌}
 use Prim.Native.Nat.{ℕ, zero, suc, ◌+◌, ◌*◌, ◌/◌, ◌%◌, ◌^◌, ◌≤◌, ◌<◌}
 use native.Mathlib.Nat.{pow-suc, lt_of_lt_of_le}
 use native.Mathlib.Decide.{dec_lt}
@@ -10,7 +10,7 @@ use lib.Dec.{lit≤}
 use lib.ListN.{length, length-append}
 use Rattle.rules.specs.Text.{digits, decimal}
 use Rattle.std.specs.Fmt.{decimal as plain}
-use Rattle.std.proofs.lemmas.Fmt.{decimal_by_steps}
+use Rattle.std.proofs.lemmas.Fmt.{decimal_by_steps, length-decimal-le}
 
 digits_one : (k n : ℕ) → n < 10 → digits k n ≡ (48 + n) ∷ []
 unfolding digits
@@ -62,21 +62,12 @@ length_power (suc k) n h g =
 pub standard : (n : ℕ) → n < 2 ^ 64 → decimal n ≡ plain n
 standard n h =
     decimal_by_steps
-      (λ (m : ℕ) (ds : List ℕ). decimal m ≡ ds)
-      decimal_one
-      (λ (m : ℕ) (ds : List ℕ) (ten : 10 ≤ m) (front : decimal (m / 10) ≡ ds). decimal_more m ten ∙ ap (λ (l : List ℕ). l ++ ((48 + m % 10) ∷ [])) front)
-      n
-      h
+    (λ (m : ℕ) (ds : List ℕ). decimal m ≡ ds)
+    decimal_one
+    (λ (m : ℕ) (ds : List ℕ) (ten : 10 ≤ m) (front : decimal (m / 10) ≡ ds). decimal_more m ten ∙ ap (λ (l : List ℕ). l ++ ((48 + m % 10) ∷ [])) front)
+    n
+    h
 
--- a number below 10 ^ (k + 1) has at most k + 1 digits
-decimal_most : (k n : ℕ) → n < 10 ^ suc k → length (decimal n) ≤ suc k
-decimal_most zero n h = omega (arith, length_one n h)
-decimal_most (suc k) n h =
-    let p : n < 10 ^ suc k * 10 = rw (← pow-suc 10 (suc k)) h in
-    elim (dec_lt n 10) [
-      | yes lt ↦ omega (arith, length_one n lt)
-      | no ge ↦ omega (arith, length_more n (omega arith), decimal_most k (n / 10) (omega arith))
-    ]
-
+-- a number below 2 to the power 64 has at most 20 digits
 pub length_most : (n : ℕ) → n < 2 ^ 64 → length (decimal n) ≤ 20
-length_most n h = decimal_most 19 n (lt_of_lt_of_le h (lit≤ tt))
+length_most n h = rw (standard n h) (length-decimal-le 20 n (omega arith) (lt_of_lt_of_le h (lit≤ tt)) h)

@@ -1,15 +1,11 @@
--- The laws of `Put`: writes one after another are one write, and what was written from its end back. Assumes nothing.
-use mathlib.Core.Path.{◌≡◌, refl, sym, ap, ◌∙◌, subst}
-use mathlib.Core.List.{List, [], ◌∷◌, ◌++◌, append_assoc, append-nil}
-use Prim.Native.Nat.{ℕ, ◌+◌, ◌≤◌, ◌<◌}
-use native.Mathlib.Numerals.{add-one}
+-- The laws of what takes texts: one after another they are one text. A law that an impl proves may cite `specs` alone, so they stand here. Assumes nothing.
+use mathlib.Core.Path.{◌≡◌, sym, ap, ◌∙◌}
+use mathlib.Core.List.{List, ◌++◌, append_assoc}
+use Prim.Native.Nat.{ℕ, ◌+◌, ◌≤◌}
 use native.Mathlib.Omega.{arith}
 use lib.ListN.{length, take, drop, set, length-append, length-set, take-append-drop}
-use lib.Seq.{set_split, take_at, drop_at, drop-drop, length-take-le, append_snoc}
+use lib.Seq.{take_at, drop_at, drop-drop, length-take-le}
 use Rattle.text.specs.Written.{Put, Taken}
-
-pub put_none : (e : List ℕ) (at : ℕ) → at ≤ length e → Put e at [] e at
-put_none e at h = record { room = h; ends = omega arith; long = refl; written = rw append-nil (sym (take-append-drop at e)) }
 
 -- two writes, the second where the first ended
 pub put_then : {e m x s t : List ℕ} {at k end : ℕ} → Put e at s m k → Put m k t x end → Put e at (s ++ t) x end
@@ -28,12 +24,7 @@ put_then {e} {m} {x} {s} {t} {at} {k} {end} p q =
       written = q.written ∙ rw (front, last) (simp append_assoc);
     }
 
--- the same write by an equal text and an equal end
-pub put_as : {e x s t : List ℕ} {at k end : ℕ} → Put e at s x end → s ≡ t → end ≡ k → Put e at t x k
-put_as {e} {x} {s} {t} {at} {k} {end} p q r =
-    subst (λ (n : ℕ). Put e at t x n) r (subst (λ (l : List ℕ). Put e at l x end) q p)
-
--- what stands at the front and behind it
+-- a write by what stands before it and from it on
 pub put_parts : (e x s : List ℕ) (at end : ℕ) → at + length s ≡ end → end ≤ length e → length x ≡ length e → take at x ≡ take at e → drop at x ≡ s ++ drop end e → Put e at s x end
 put_parts e x s at end h room long before behind =
     record {
@@ -60,4 +51,5 @@ taken_then {S} {at} {end} {takes} {a} {b} {c} {s} {t} goes_on p q =
       whole = goes_on a b c s t p.whole q.whole;
     }
 
+-- what a sink's room is reckoned by
 pub ruleset sizes = (length-append)

@@ -1,5 +1,5 @@
 -- What a text leaves in what takes it, and what a length says of a text.
-use Rattle.std.specs.Prelude.{◌≡◌, List, [], ◌∷◌, ◌++◌, ℕ, ◌+◌, ◌≤◌, length, take, drop}
+use Rattle.std.specs.Prelude.{◌≡◌, List, ◌++◌, ℕ, ◌+◌, ◌≤◌, length, take, drop}
 use Rattle.rules.specs.Text.{text, decimal}
 
 -- `text` was written from `at` up to `end`, and nothing else changed. (`long` follows from the others; a caller goes on by it.)

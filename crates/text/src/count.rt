@@ -12,7 +12,9 @@ pub struct Count {
 
 impl Sink for Count {
     ghost at = { λ s. s.bytes };
+
     ghost end = { λ s. 2 ^ 64 - 1 };
+
     ghost takes = { λ a t b. b.bytes ≡ a.bytes + length t };
 
     fn text(&mut self, text: &[u8]) {

@@ -15,6 +15,7 @@ pub use space::Space;
 pub trait Sink {
     // How far it is, and how far it goes.
     ghost at: { Self → ℕ };
+
     ghost end: { Self → ℕ };
 
     // What it was, a text, and what it is once the text is put into it.

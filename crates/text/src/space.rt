@@ -26,7 +26,9 @@ impl<'a> Space<'a> {
 
 impl<'a> Sink for Space<'a> {
     ghost at = { λ s. s.at };
+
     ghost end = { λ s. length s.bytes.now };
+
     ghost takes = { λ a t b. Put a.bytes.now a.at t b.bytes.now b.at × (b.bytes.ghost_name ≡ a.bytes.ghost_name) };
 
     fn text(&mut self, text: &[u8]) {
