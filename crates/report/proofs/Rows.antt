@@ -1,16 +1,14 @@
 -- The blocks of the first rows, one row more at a time. Assumes nothing.
 use mathlib.Core.Path.{◌≡◌, refl, sym, ap, ◌∙◌}
 use mathlib.Core.List.{List, [], ◌∷◌, ◌++◌, append_assoc, append-nil}
-use Prim.Native.Nat.{ℕ, zero, suc, ◌+◌, ◌*◌, ◌≤◌, ◌<◌}
+use Prim.Native.Nat.{ℕ, ◌+◌, ◌≤◌, ◌<◌}
 use native.Mathlib.Numerals.{add-one}
 use native.Mathlib.Omega.{arith}
 use lib.ListN.{length, take, drop, get_or, length-append, take-append-drop}
-use lib.Seq.{take-suc, take-take}
+use lib.Seq.{take-suc}
 use Rattle.rules.specs.declared.Row.{Row}
 use Rattle.rules.specs.Settlement.{days, litres}
 use Rattle.rules.specs.Report.{block, blocks}
-use Rattle.rules.specs.Fits.{Fits, AllFit}
-use Rattle.text.specs.Written.{Long}
 
 -- the row at an index; past the last it has nothing
 abbrev no_row : Row

@@ -1,4 +1,4 @@
-use Rattle.std.proofs.Common.{refl, ap, arith, length, length-append, ◌∙◌}
+use Rattle.std.proofs.Common.{refl, ap, arith, length, length-append}
 use Rattle.rules.specs.Report.{blocks}
 use Rattle.report.proofs.Rows.{blocks_more}
 use Rattle.report.proofs.Report.blocks_length.Goals as goal

@@ -1,7 +1,5 @@
 -- Too short a space, or the whole text at its front.
 use Rattle.std.proofs.Common.{ap, arith, rules, length}
-use Rattle.rules.specs.Report.{report_of}
-use Rattle.text.specs.Written.{Put}
 use Rattle.report.proofs.Writes.{too_short, all_written}
 use Rattle.report.proofs.Report.write.Goals as goal
 
