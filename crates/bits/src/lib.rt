@@ -4,7 +4,6 @@ ghost use Rattle.std.specs.Prelude.{◌≡◌, ◌+◌, ◌*◌, ◌≤◌, ◌<
 ghost use Rattle.rules.specs.Field.{field};
 ghost use Rattle.bits.specs.Took.{Took};
 ghost use Rattle.bits.specs.CutOut.{CutOut};
-ghost use Rattle.bits.specs.Bytes.{Turned};
 
 // A position in a file, in bits.
 #[derive(Clone, Copy, PartialEq, Eq)]
@@ -19,33 +18,11 @@ pub struct Taken<T> {
     pub next: Cursor,
 }
 
-// The byte at an index that is there.
-fn byte_there(file: &[u8], i: usize) -> u64
-    requires { i < length file.now }
-    ensures { (result ≡ get_or file.now i 0) × (result < 256) }
-{
-    file[i] as u64
-}
-
 // The byte at an index, and 0 past the end.
-fn byte(file: &[u8], i: usize) -> u64
-    ensures { (result ≡ get_or file.now i 0) × (result < 256) }
+fn byte(file: &[u8], i: usize) -> u8
+    ensures { result ≡ get_or file.now i 0 }
 {
-    file.get(i).copied().unwrap_or(0) as u64
-}
-
-// A number with its eight bytes in the other order.
-fn turned(w: u64) -> u64
-    ensures { Turned w result }
-{
-    w % 256 * 0x100_0000_0000_0000
-        + w / 0x100 % 256 * 0x1_0000_0000_0000
-        + w / 0x1_0000 % 256 * 0x100_0000_0000
-        + w / 0x100_0000 % 256 * 0x1_0000_0000
-        + w / 0x1_0000_0000 % 256 * 0x100_0000
-        + w / 0x100_0000_0000 % 256 * 0x1_0000
-        + w / 0x1_0000_0000_0000 % 256 * 0x100
-        + w / 0x100_0000_0000_0000
+    file.get(i).copied().unwrap_or(0)
 }
 
 // The eight bytes from an index on, all of which are there, as one number. They are joined as the machine has them, the least significant first,
@@ -56,44 +33,37 @@ fn eight_there(file: &[u8], i: usize) -> u64
     requires { i + 8 ≤ length file.now }
     ensures { result ≡ field file.now (i * 8) 64 }
 {
-    let b0 = byte_there(file, i);
-    let b1 = byte_there(file, i + 1);
-    let b2 = byte_there(file, i + 2);
-    let b3 = byte_there(file, i + 3);
-    let b4 = byte_there(file, i + 4);
-    let b5 = byte_there(file, i + 5);
-    let b6 = byte_there(file, i + 6);
-    let b7 = byte_there(file, i + 7);
-    turned(
-        b0 + b1 * 0x100
-            + b2 * 0x1_0000
-            + b3 * 0x100_0000
-            + b4 * 0x1_0000_0000
-            + b5 * 0x100_0000_0000
-            + b6 * 0x1_0000_0000_0000
-            + b7 * 0x100_0000_0000_0000,
-    )
+    u64::from_le_bytes([
+        file[i],
+        file[i + 1],
+        file[i + 2],
+        file[i + 3],
+        file[i + 4],
+        file[i + 5],
+        file[i + 6],
+        file[i + 7],
+    ])
+    .swap_bytes()
 }
 
-// Some bytes from an index on, each asked for by itself, as one number. It calls itself, so that the compiler keeps it apart: it serves the end
-// of a file alone, and what calls it stays small enough to be copied into every reader.
-fn last_bytes(file: &[u8], i: usize, count: usize) -> u64
-    requires { (count ≤ 8) × (i < 2 ^ 60) }
-    ensures { result ≡ field file.now (i * 8) (count * 8) }
-{
-    if count == 0 {
-        return 0;
-    }
-    let before = count - 1;
-    last_bytes(file, i, before) * 256 + byte(file, i + before)
-}
-
-// The eight bytes from an index on, each asked for by itself. The slice is set down in memory for `last_bytes` here, and so only near the end.
+// The eight bytes from an index on, each asked for by itself. Only the end of a file needs it, so it is kept apart: what calls it stays small
+// enough to be copied into every reader.
+#[cold]
+#[inline(never)]
 fn eight_last(file: &[u8], i: usize) -> u64
     requires { i < 2 ^ 60 }
     ensures { result ≡ field file.now (i * 8) 64 }
 {
-    last_bytes(file, i, 8)
+    u64::from_be_bytes([
+        byte(file, i),
+        byte(file, i + 1),
+        byte(file, i + 2),
+        byte(file, i + 3),
+        byte(file, i + 4),
+        byte(file, i + 5),
+        byte(file, i + 6),
+        byte(file, i + 7),
+    ])
 }
 
 // The eight bytes from an index on, as one number.
