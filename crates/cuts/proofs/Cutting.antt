@@ -10,8 +10,8 @@ use Rattle.records.specs.declared.Groups.{Groups}
 use Rattle.records.specs.Conditions.{condition_of}
 use Rattle.spans.specs.declared.Span.{Span}
 use Rattle.spans.specs.Spans.{clear_span, span_in, begin_in, end_in, Sum, litres_sum, annual_sum, allowance_sum, threshold_sum, sum_of, sum_in, SpanSet}
-use Rattle.cuts.specs.declared.Owning.{Owning}
-use Rattle.cuts.specs.declared.Holding.{Holding}
+use Rattle.rules.specs.declared.Transfer.{Transfer}
+use Rattle.cuts.specs.declared.InForce.{InForce}
 use Rattle.cuts.specs.Cuts.{Owns, Held, CutBy}
 use Rattle.cuts.proofs.Walks.{reading_within, reading_under, reading_later}
 
@@ -32,6 +32,17 @@ clear_sum end provider g litres_sum = refl
 clear_sum end provider g annual_sum = refl
 clear_sum end provider g allowance_sum = refl
 clear_sum end provider g threshold_sum = refl
+
+-- by owners that are the same
+pub cut_as : {spans : List Span} {n m : ℕ} {owner owner' : ℕ → ℕ} {on : ℕ → Condition} → ((i : ℕ) → owner i ≡ owner' i) → CutBy spans n m owner on → CutBy spans n m owner' on
+cut_as e u =
+    record {
+      long = u.long;
+      cut = u.cut;
+      owners = λ s i h a b. u.owners s i h a b ∙ e i;
+      conditions = u.conditions;
+      clear = u.clear;
+    }
 
 -- ONE MORE SPAN, from where the last one ends
 module _ {spans next : List Span} {owner : ℕ → ℕ} {on : ℕ → Condition} {s i end provider : ℕ} {g : Groups} (u : CutBy spans i s owner on) (v : SpanSet spans next s end provider g) where
@@ -92,16 +103,19 @@ module _ {spans next : List Span} {owner : ℕ → ℕ} {on : ℕ → Condition}
 
 -- THE LOOP: the days before entry i are cut, and those from there on go by the transfers and conditions that are ahead. One of these has come to an
 -- end there, but before the first turn
-module _ (file : List ℕ) (start n : ℕ) (owner : ℕ → ℕ) (on : ℕ → Condition) where
-  pub record Cutting (spans : List Span) (s i : ℕ) (own : Owning) (held : Holding) : Type 0 where
+module _ (file : List ℕ) (start n : ℕ) (all : ℕ → Transfer) (on : ℕ → Condition) where
+  abbrev owner : ℕ → ℕ
+  owner j = (all j).provider
+
+  pub record Cutting (spans : List Span) (s i : ℕ) (own : InForce Transfer) (held : InForce Groups) : Type 0 where
     pub done : CutBy spans i s owner on
-    pub owns : Owns file start n owner i own
+    pub owns : Owns file start n all i own
     pub holds : Held file start n on i held
     pub few : s + own.left + held.left ≤ 72
     pub fewer : i < own.end → i < held.end → s + own.left + held.left ≤ 71
     pub within : i ≤ n
 
-  module _ {spans : List Span} {s i : ℕ} {own : Owning} {held : Holding} (own' : Owning) (held' : Holding) (u : Cutting spans s i own held) (owns : Owns file start n owner i own') (holds : Held file start n on i held')
+  module _ {spans : List Span} {s i : ℕ} {own : InForce Transfer} {held : InForce Groups} (own' : InForce Transfer) (held' : InForce Groups) (u : Cutting spans s i own held) (owns : Owns file start n all i own') (holds : Held file start n on i held')
       (a : i < own'.end) (b : i < held'.end) (less : (own'.left ≤ own.left) × (own.end ≤ i → own'.left < own.left))
       (less' : (held'.left ≤ held.left) × (held.end ≤ i → held'.left < held.left)) where
     places : s + own'.left + held'.left ≤ 71
@@ -116,11 +130,11 @@ module _ (file : List ℕ) (start n : ℕ) (owner : ℕ → ℕ) (on : ℕ → C
     pub cutting_room : s < length spans
     cutting_room = omega (arith, places, u.done.long)
 
-    pub cutting_turn : {end : ℕ} {next : List Span} → end ≡ min own'.end held'.end → SpanSet spans next s end own'.provider held'.groups → Cutting next (s + 1) end own' held'
+    pub cutting_turn : {end : ℕ} {next : List Span} → end ≡ min own'.end held'.end → SpanSet spans next s end own'.now.provider held'.now → Cutting next (s + 1) end own' held'
     cutting_turn {end} e v =
         let on-to : i < end = omega arith in
         record {
-          done = cut_more u.done v on-to cutting_room (λ j x y. reading_under owns j x (omega arith)) (λ j x y. reading_under holds j x (omega arith));
+          done = cut_more u.done v on-to cutting_room (λ j x y. ap (λ t. t.provider) (reading_under owns j x (omega arith))) (λ j x y. reading_under holds j x (omega arith));
           owns = reading_later owns (omega arith);
           holds = reading_later holds (omega arith);
           few = omega (arith, places);
@@ -128,9 +142,9 @@ module _ (file : List ℕ) (start n : ℕ) (owner : ℕ → ℕ) (on : ℕ → C
           within = omega (arith, reading_within owns);
         }
 
-  pub cutting_begin : {spans : List Span} {own : Owning} {held : Holding} → length spans ≡ 72 → Owns file start n owner 0 own → Held file start n on 0 held → own.left + held.left ≤ 71 → Cutting spans 0 0 own held
+  pub cutting_begin : {spans : List Span} {own : InForce Transfer} {held : InForce Groups} → length spans ≡ 72 → Owns file start n all 0 own → Held file start n on 0 held → own.left + held.left ≤ 71 → Cutting spans 0 0 own held
   cutting_begin long o h few =
       record { done = cut_none long; owns = o; holds = h; few = omega arith; fewer = λ x y. omega arith; within = zero-le }
 
-  pub cutting_end : {spans : List Span} {s i : ℕ} {own : Owning} {held : Holding} → Cutting spans s i own held → n ≤ i → CutBy spans n s owner on
+  pub cutting_end : {spans : List Span} {s i : ℕ} {own : InForce Transfer} {held : InForce Groups} → Cutting spans s i own held → n ≤ i → CutBy spans n s owner on
   cutting_end {spans} {s} {i} u h = subst (λ k. CutBy spans k s owner on) {x = i} {y = n} (omega (arith, u.within)) u.done

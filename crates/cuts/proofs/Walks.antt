@@ -1,12 +1,12 @@
 -- Dated records that are gone through in the order of the days, transfers and conditions alike. Assumes nothing.
 use Prim.Native.Nat.{ℕ, zero, suc, ◌+◌, ◌-◌, ◌^◌, ◌≤◌, ◌<◌, min, zero-le}
 use mathlib.Core.Path.{◌≡◌, refl, sym, ap, ◌∙◌, subst}
-use mathlib.Core.Bool.{cond}
+use mathlib.Core.Bool.{Bool, true, false, cond}
 use mathlib.Core.Logic.{◌⊎◌, inl, inr, ⊎_elim}
 use mathlib.Core.List.{List, [], ◌∷◌, map}
 use native.Mathlib.Nat.{le_refl, eq-zero-or-pos}
 use native.Mathlib.Omega.{arith}
-use lib.Dec.{eqb}
+use lib.Dec.{eqb, leb}
 use Rattle.rules.specs.declared.Transfer.{Transfer}
 use Rattle.rules.specs.declared.Condition.{Condition}
 use Rattle.rules.specs.Lists.{latest}
@@ -20,7 +20,7 @@ use Rattle.records.specs.Conditions.{condition_of}
 use Rattle.charged.specs.Charged.{first_entry}
 use Rattle.providers.specs.Runs.{SoundTransfers}
 use Rattle.providers.proofs.Runs.{first_within, none_left, end_is, first_zero}
-use Rattle.cuts.specs.Cuts.{owner_of, condition_in, SoundConditions, Walk, Reading}
+use Rattle.cuts.specs.Cuts.{transfer_in, owner_of, condition_in, SoundConditions, Walk, Reading}
 
 module _ {A B : Type 0} (day : A → ℕ) (value : A → B) (start n : ℕ) where
   module _ {all : ℕ → B} {i : ℕ} {now : B} where
@@ -112,7 +112,7 @@ module _ {file : List ℕ} {count at start : ℕ} (n : ℕ) (sound : SoundTransf
   transfers_small = omega (arith, sound.ends, forward {next = λ at t. after_transfer at} (λ at t. omega arith) at (transfers file count at))
 
   module _ {t : Transfer} {past : ℕ} (read : (t ≡ transfer_at file at) × (past ≡ after_transfer at)) where
-    before_first : Reading (transfer_at file) (λ at t. after_transfer at) (λ t. t.day) (λ t. t.provider) start n (owner_of file count at start) 0 0 t past count 0
+    before_first : Reading (transfer_at file) (λ at t. after_transfer at) (λ t. t.day) (λ t. t) start n (transfer_in file count at start) 0 (record { day = 0; provider = 0 }) t past count 0
     before_first =
         record {
           at = at;
@@ -125,8 +125,22 @@ module _ {file : List ℕ} {count at start : ℕ} (n : ℕ) (sound : SoundTransf
     first_small = reading_small before_first (λ at t. omega arith) some_transfers_lem
 
     pub reading_first : {y : Transfer} {later end : ℕ} → (y ≡ transfer_at file past) × (later ≡ after_transfer past) → end ≡ cond (eqb (count - 1) 0) n (min (y.day - start) n) →
-        Reading (transfer_at file) (λ at t. after_transfer at) (λ t. t.day) (λ t. t.provider) start n (owner_of file count at start) 0 t.provider y later (count - 1) end
+        Reading (transfer_at file) (λ at t. after_transfer at) (λ t. t.day) (λ t. t) start n (transfer_in file count at start) 0 t y later (count - 1) end
     reading_first read = reading_next before_first some_transfers_lem zero-le read refl
+
+-- the provider of the transfer in force
+latest_provider : (before : Transfer) (ts : List Transfer) (x : ℕ) → latest (λ t. t.day) (λ t. t.provider) before.provider ts x ≡ (latest (λ t. t.day) (λ t. t) before ts x).provider
+unfolding latest
+latest_provider before [] x = refl
+latest_provider before (t ∷ ts) x = pick (leb t.day x) (λ b. latest_provider b ts x)
+  where
+    pick : (c : Bool) → ((b : Transfer) → latest (λ t. t.day) (λ t. t.provider) b.provider ts x ≡ (latest (λ t. t.day) (λ t. t) b ts x).provider) →
+        latest (λ t. t.day) (λ t. t.provider) (cond c t.provider before.provider) ts x ≡ (latest (λ t. t.day) (λ t. t) (cond c t before) ts x).provider
+    pick true later = later t
+    pick false later = later before
+
+pub owner_is : (file : List ℕ) (count at start i : ℕ) → (transfer_in file count at start i).provider ≡ owner_of file count at start i
+owner_is file count at start i = sym (latest_provider (record { day = 0; provider = 0 }) (transfers file count at) (start + i))
 
 pub no_groups : condition_of (record { state = 0; rateable = 0 }) ≡ no_condition
 unfolding condition_of no_condition

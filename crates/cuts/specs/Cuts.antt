@@ -2,18 +2,23 @@
 use Rattle.std.specs.Prelude.{ℕ, ◌+◌, ◌^◌, ◌≤◌, ◌<◌, ◌≡◌, List, map, length}
 use Rattle.rules.specs.declared.Condition.{Condition}
 use Rattle.rules.specs.Lists.{Ascending, latest}
-use Rattle.rules.specs.File.{records, after, transfer_at, after_transfer, transfers, condition_at, after_condition, conditions, after_conditions}
+use Rattle.rules.specs.File.{records, after, transfer_at, transfers, condition_at, conditions, after_conditions}
 use Rattle.rules.specs.Charges.{no_condition}
 use Rattle.charged.specs.Charged.{first_entry}
 use Rattle.records.specs.Conditions.{condition_of}
 use Rattle.spans.specs.declared.Span.{Span}
 use Rattle.spans.specs.Spans.{span_in, begin_in, end_in, Cut, Sum, sum_in}
-use Rattle.cuts.specs.declared.Owning.{Owning}
-use Rattle.cuts.specs.declared.Holding.{Holding}
+use Rattle.rules.specs.declared.Transfer.{Transfer}
+use Rattle.records.specs.declared.Groups.{Groups}
+use Rattle.cuts.specs.declared.InForce.{InForce}
 
 -- the provider of the day of entry i, from `start` on
 abbrev pub owner_of : List ℕ → ℕ → ℕ → ℕ → ℕ → ℕ
 owner_of file count at start i = latest (λ t. t.day) (λ t. t.provider) 0 (transfers file count at) (start + i)
+
+-- by the transfer in force
+abbrev pub transfer_in : List ℕ → ℕ → ℕ → ℕ → ℕ → Transfer
+transfer_in file count at start i = latest (λ t. t.day) (λ t. t) (record { day = 0; provider = 0 }) (transfers file count at) (start + i)
 
 -- and its condition
 abbrev pub condition_in : List ℕ → ℕ → ℕ → ℕ → ℕ → Condition
@@ -38,15 +43,18 @@ pub record Reading {A B : Type 0} (here : ℕ → A) (next : ℕ → A → ℕ) 
   pub within : after next at (records here next left at) < 2 ^ 32
   pub walk : Walk day value start n all i now (records here next left at) end
 
--- the transfers, by how far `owner_at` has gone through them; day i of n has the provider `owner i`
-abbrev pub Owns : List ℕ → ℕ → ℕ → (ℕ → ℕ) → ℕ → Owning → Type 0
-Owns file start n owner i o =
-    Reading (transfer_at file) (λ at t. after_transfer at) (λ t. t.day) (λ t. t.provider) start n owner i o.provider o.ahead o.next.at o.left o.end
+-- records of a width, by how far `record_at` has gone through them: the day of entry j has the record `all j` in force
+abbrev pub Walked : {A R : Type 0} → (ℕ → A) → ℕ → (A → ℕ) → (R → A) → ℕ → ℕ → (ℕ → A) → ℕ → InForce R → Type 0
+Walked here wide day seen start n all i w =
+    Reading here (λ at x. at + wide) day (λ x. x) start n all i (seen w.now) (seen w.ahead) w.next.at w.left w.end
 
--- the conditions, by how far `condition_at` has; day i of n has the condition `on i`
-abbrev pub Held : List ℕ → ℕ → ℕ → (ℕ → Condition) → ℕ → Holding → Type 0
-Held file start n on i h =
-    Reading (condition_at file) (λ at c. after_condition at) (λ c. c.day) (λ c. c) start n on i (condition_of h.groups) (condition_of h.ahead) h.next.at h.left h.end
+-- the transfers
+abbrev pub Owns : List ℕ → ℕ → ℕ → (ℕ → Transfer) → ℕ → InForce Transfer → Type 0
+Owns file start n all i o = Walked (transfer_at file) 32 (λ t. t.day) (λ t. t) start n all i o
+
+-- the conditions
+abbrev pub Held : List ℕ → ℕ → ℕ → (ℕ → Condition) → ℕ → InForce Groups → Type 0
+Held file start n on i h = Walked (condition_at file) 72 (λ c. c.day) condition_of start n on i h
 
 -- THE SPANS: the condition of the span at a place
 abbrev pub span_condition : List Span → ℕ → Condition

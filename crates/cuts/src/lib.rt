@@ -1,15 +1,16 @@
 #![tactic(auto)]
 // The charged days of a supply point, cut at its transfers and conditions: days with one provider and one condition are a span. Each record is read
 // once, in the order of the days.
-ghost use Rattle.std.specs.Prelude.{◌≡◌, ℕ, ◌-◌, ◌≤◌, ◌<◌, ◌^◌, length};
-ghost use Rattle.rules.specs.declared.Condition.{Condition};
+ghost use Rattle.std.specs.Prelude.{◌≡◌, ℕ, List, ◌+◌, ◌-◌, ◌≤◌, ◌<◌, ◌^◌, length};
+ghost use Rattle.rules.specs.File.{transfer_at, condition_at};
+ghost use Rattle.records.specs.Conditions.{condition_of};
 ghost use Rattle.providers.specs.Runs.{SoundTransfers};
-ghost use Rattle.cuts.specs.Cuts.{Owns, Held, owner_of, condition_in, SoundConditions, CutBy};
+ghost use Rattle.cuts.specs.Cuts.{Walked, Owns, Held, transfer_in, owner_of, condition_in, SoundConditions, CutBy};
 
 use bits::Cursor;
 use providers::run_end;
 use records::Groups;
-use rules::Transfer;
+use rules::{Condition, Transfer};
 use spans::{MOST_SPANS, Span, set_span};
 
 // Where a point's transfers and conditions stand, and how many there are.
@@ -21,135 +22,146 @@ pub struct Lists {
     pub condition_count: u64,
 }
 
-// The provider of the days before an entry, and the transfer ahead, which is read: so many are left with it. `next` is the cursor after it. Where
+// A record of a list whose days ascend, as the file has it, and as the rules see it.
+trait Dated: Copy {
+    type Seen;
+
+    ghost seen: { Self → Self.Seen };
+
+    ghost here: { List ℕ → ℕ → Self.Seen };
+
+    ghost wide: { ℕ };
+
+    ghost day_of: { Self.Seen → ℕ };
+
+    // The record at a cursor, and the cursor after it.
+    fn read(file: &[u8], c: Cursor) -> (Self, Cursor)
+        requires { c.at < 2 ^ 32 }
+        ensures { (seen result.0 ≡ here file.now c.at) × (result.1.at ≡ c.at + wide) };
+
+    fn day(&self) -> u64
+        ensures { result ≡ day_of (seen self.now) };
+}
+
+impl Dated for Transfer {
+    type Seen = Transfer;
+
+    ghost seen = { λ t. t };
+
+    ghost here = { transfer_at };
+
+    ghost wide = { 32 };
+
+    ghost day_of = { λ t. t.day };
+
+    fn read(file: &[u8], c: Cursor) -> (Transfer, Cursor) {
+        let taken = records::transfer(file, c);
+        (taken.value, taken.next)
+    }
+
+    fn day(&self) -> u64 {
+        self.day
+    }
+}
+
+impl Dated for Groups {
+    type Seen = Condition;
+
+    ghost seen = { condition_of };
+
+    ghost here = { condition_at };
+
+    ghost wide = { 72 };
+
+    ghost day_of = { λ c. c.day };
+
+    fn read(file: &[u8], c: Cursor) -> (Groups, Cursor) {
+        let taken = records::condition_groups(file, c);
+        (taken.value, taken.next)
+    }
+
+    fn day(&self) -> u64 {
+        records::condition_day(*self)
+    }
+}
+
+// The record in force on the days before an entry, and the one ahead, which is read: so many are left with it. `next` is the cursor after it. Where
 // none is left, what stands behind the last was read, and is not asked for.
 #[derive(Clone, Copy)]
-struct Owning {
-    provider: u64,
+struct InForce<R> {
+    now: R,
     end: usize,
-    ahead: Transfer,
+    ahead: R,
     next: Cursor,
     left: u64,
 }
 
-// The condition of the days before an entry, and the one ahead, which is read: so many are left with it. `next` is the cursor after it. Where none is
-// left, what stands behind the last was read, and is not asked for.
-#[derive(Clone, Copy)]
-struct Holding {
-    groups: Groups,
-    end: usize,
-    ahead: Groups,
-    next: Cursor,
-    left: u64,
+// The record that is ahead comes into force.
+fn next_record<R: Dated>(file: &[u8], w: InForce<R>, start: u64, n: usize) -> InForce<R>
+    requires { (0 < w.left) × (w.next.at < 2 ^ 32) }
+    ensures { ((all : ℕ → R.Seen) (i : ℕ) → Walked (R.here file.now) R.wide R.day_of R.seen start n all i w → w.end ≤ i → Walked (R.here file.now) R.wide R.day_of R.seen start n all i result) × (result.left ≡ w.left - 1) }
+{
+    let (ahead, next) = R::read(file, w.next);
+    let left = w.left - 1;
+    let end = run_end(left, n, start, ahead.day());
+    InForce {
+        now: w.ahead,
+        end,
+        ahead,
+        next,
+        left,
+    }
+}
+
+// The record in force at entry i, from those before it on.
+fn record_at<R: Dated>(file: &[u8], from: InForce<R>, start: u64, n: usize, i: usize) -> InForce<R>
+    requires { ((all : ℕ → R.Seen) × Walked (R.here file.now) R.wide R.day_of R.seen start n all i «from») × (i < n) }
+    ensures now { ((all : ℕ → R.Seen) → Walked (R.here file.now) R.wide R.day_of R.seen start n all i «from» → Walked (R.here file.now) R.wide R.day_of R.seen start n all i result) × (i < result.end) }
+    ensures fewer { (result.left ≤ «from».left) × («from».end ≤ i → result.left < «from».left) }
+{
+    let mut w = from;
+    while w.end <= i {
+        w = next_record(file, w, start, n);
+    }
+    w
 }
 
 // The first of so many transfers, whose day is not after the first day.
-fn first_owner(file: &[u8], c: Cursor, count: u64, start: u64, n: usize) -> Owning
+fn first_owner(file: &[u8], c: Cursor, count: u64, start: u64, n: usize) -> InForce<Transfer>
     requires { SoundTransfers file.now count c.at start }
-    ensures { Owns file.now start n (owner_of file.now count c.at start) 0 result × (result.left ≡ count - 1) }
+    ensures { Owns file.now start n (transfer_in file.now count c.at start) 0 result × (result.left ≡ count - 1) }
 {
     let first = records::transfer(file, c);
     let second = records::transfer(file, first.next);
-    let ahead = second.value;
-    let next = second.next;
     let left = count - 1;
-    let end = run_end(left, n, start, ahead.day);
-    Owning {
-        provider: first.value.provider,
+    let end = run_end(left, n, start, second.value.day);
+    InForce {
+        now: first.value,
         end,
-        ahead,
-        next,
+        ahead: second.value,
+        next: second.next,
         left,
     }
-}
-
-// The transfer that is ahead.
-fn next_owner(file: &[u8], o: Owning, start: u64, n: usize) -> Owning
-    requires { (0 < o.left) × (o.next.at < 2 ^ 32) }
-    ensures { ((owner : ℕ → ℕ) (i : ℕ) → Owns file.now start n owner i o → o.end ≤ i → Owns file.now start n owner i result) × (result.left ≡ o.left - 1) }
-{
-    let taken = records::transfer(file, o.next);
-    let ahead = taken.value;
-    let next = taken.next;
-    let left = o.left - 1;
-    let end = run_end(left, n, start, ahead.day);
-    Owning {
-        provider: o.ahead.provider,
-        end,
-        ahead,
-        next,
-        left,
-    }
-}
-
-// The provider of entry i, from those before it on.
-fn owner_at(file: &[u8], from: Owning, start: u64, n: usize, i: usize) -> Owning
-    requires { ((owner : ℕ → ℕ) × Owns file.now start n owner i «from») × (i < n) }
-    ensures owns { ((owner : ℕ → ℕ) → Owns file.now start n owner i «from» → Owns file.now start n owner i result) × (i < result.end) }
-    ensures fewer { (result.left ≤ «from».left) × («from».end ≤ i → result.left < «from».left) }
-{
-    let mut o = from;
-    while o.end <= i {
-        let more = next_owner(file, o, start, n);
-        o = more;
-    }
-    o
 }
 
 // Before the first of so many conditions all are 0.
-fn no_condition(file: &[u8], c: Cursor, count: u64, start: u64, n: usize) -> Holding
+fn no_condition(file: &[u8], c: Cursor, count: u64, start: u64, n: usize) -> InForce<Groups>
     requires { SoundConditions file.now count c.at }
     ensures { Held file.now start n (condition_in file.now count c.at start) 0 result × (result.left ≡ count) }
 {
     let taken = records::condition_groups(file, c);
-    let ahead = taken.value;
-    let next = taken.next;
-    let end = run_end(count, n, start, records::condition_day(ahead));
+    let end = run_end(count, n, start, records::condition_day(taken.value));
     let groups = Groups {
         state: 0,
         rateable: 0,
     };
-    Holding {
-        groups,
+    InForce {
+        now: groups,
         end,
-        ahead,
-        next,
+        ahead: taken.value,
+        next: taken.next,
         left: count,
     }
-}
-
-// The condition that is ahead.
-fn next_condition(file: &[u8], h: Holding, start: u64, n: usize) -> Holding
-    requires { (0 < h.left) × (h.next.at < 2 ^ 32) }
-    ensures { ((on : ℕ → Condition) (i : ℕ) → Held file.now start n on i h → h.end ≤ i → Held file.now start n on i result) × (result.left ≡ h.left - 1) }
-{
-    let taken = records::condition_groups(file, h.next);
-    let groups = h.ahead;
-    let ahead = taken.value;
-    let next = taken.next;
-    let left = h.left - 1;
-    let end = run_end(left, n, start, records::condition_day(ahead));
-    Holding {
-        groups,
-        end,
-        ahead,
-        next,
-        left,
-    }
-}
-
-// The condition of entry i, from those before it on.
-fn condition_at(file: &[u8], from: Holding, start: u64, n: usize, i: usize) -> Holding
-    requires { ((on : ℕ → Condition) × Held file.now start n on i «from») × (i < n) }
-    ensures held { ((on : ℕ → Condition) → Held file.now start n on i «from» → Held file.now start n on i result) × (i < result.end) }
-    ensures fewer { (result.left ≤ «from».left) × («from».end ≤ i → result.left < «from».left) }
-{
-    let mut h = from;
-    while h.end <= i {
-        let more = next_condition(file, h, start, n);
-        h = more;
-    }
-    h
 }
 
 // The spans of n days from `start` on, with no sums: how many there are. A point has at most 24 transfers and 48 conditions, and so at most 72 spans.
@@ -169,10 +181,10 @@ pub fn cut_days(
     let mut s: usize = 0;
     let mut i: usize = 0;
     while i < n {
-        own = owner_at(file, own, start, n, i);
-        held = condition_at(file, held, start, n, i);
+        own = record_at(file, own, start, n, i);
+        held = record_at(file, held, start, n, i);
         let end = own.end.min(held.end);
-        set_span(spans, s, end, own.provider, held.groups);
+        set_span(spans, s, end, own.now.provider, held.now);
         s += 1;
         i = end;
     }
