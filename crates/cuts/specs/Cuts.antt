@@ -6,7 +6,8 @@ use Rattle.rules.specs.File.{records, after, transfer_at, after_transfer, transf
 use Rattle.rules.specs.Charges.{no_condition}
 use Rattle.charged.specs.Charged.{first_entry}
 use Rattle.records.specs.Conditions.{condition_of}
-use Rattle.spans.specs.Spans.{number_in, begin_in, end_in, Cut, Sum, sum_in}
+use Rattle.spans.specs.declared.Span.{Span}
+use Rattle.spans.specs.Spans.{span_in, begin_in, end_in, Cut, Sum, sum_in}
 use Rattle.cuts.specs.declared.Owning.{Owning}
 use Rattle.cuts.specs.declared.Holding.{Holding}
 
@@ -48,13 +49,13 @@ Held file start n on i h =
     Reading (condition_at file) (λ at c. after_condition at) (λ c. c.day) (λ c. c) start n on i (condition_of h.groups) (condition_of h.ahead) h.next.at h.left h.end
 
 -- THE SPANS: the condition of the span at a place
-abbrev pub span_condition : List ℕ → ℕ → Condition
-span_condition spans s = condition_of (record { state = number_in spans s 2; rateable = number_in spans s 3 })
+abbrev pub span_condition : List Span → ℕ → Condition
+span_condition spans s = condition_of (span_in spans s).groups
 
 -- n days are cut into m spans, each of one owner and one condition, without sums
-pub record CutBy (spans : List ℕ) (n m : ℕ) (owner : ℕ → ℕ) (on : ℕ → Condition) : Type 0 where
-  pub long : length spans ≡ 584
+pub record CutBy (spans : List Span) (n m : ℕ) (owner : ℕ → ℕ) (on : ℕ → Condition) : Type 0 where
+  pub long : length spans ≡ 72
   pub cut : Cut spans n m
-  pub owners : (s i : ℕ) → s < m → begin_in spans s ≤ i → i < end_in spans s → number_in spans s 1 ≡ owner i
+  pub owners : (s i : ℕ) → s < m → begin_in spans s ≤ i → i < end_in spans s → (span_in spans s).provider ≡ owner i
   pub conditions : (s i : ℕ) → s < m → begin_in spans s ≤ i → i < end_in spans s → span_condition spans s ≡ on i
   pub clear : (q : Sum) (s : ℕ) → s < m → sum_in spans q s ≡ 0

@@ -10,7 +10,7 @@ use bits::Cursor;
 use providers::run_end;
 use records::Groups;
 use rules::Transfer;
-use spans::{earlier, set_span};
+use spans::{MOST_SPANS, Span, set_span};
 
 // Where a point's transfers and conditions stand, and how many there are.
 #[derive(Clone, Copy)]
@@ -153,10 +153,15 @@ fn condition_at(file: &[u8], from: Holding, start: u64, n: usize, i: usize) -> H
 }
 
 // The spans of n days from `start` on, with no sums: how many there are. A point has at most 24 transfers and 48 conditions, and so at most 72 spans.
-pub fn cut_days(file: &[u8], lists: Lists, start: u64, n: usize, spans: &mut [u64]) -> usize
+pub fn cut_days(
+    file: &[u8],
+    lists: Lists,
+    start: u64,
+    n: usize,
+    spans: &mut [Span; MOST_SPANS],
+) -> usize
     requires sound_transfers { SoundTransfers file.now lists.transfer_count lists.transfers.at start × (lists.transfer_count ≤ 24) }
     requires sound_conditions { SoundConditions file.now lists.condition_count lists.conditions.at × (lists.condition_count ≤ 48) }
-    requires spans_len { length spans.old ≡ 584 }
     ensures { CutBy spans.new n result (owner_of file.now lists.transfer_count lists.transfers.at start) (condition_in file.now lists.condition_count lists.conditions.at start) }
 {
     let mut own = first_owner(file, lists.transfers, lists.transfer_count, start, n);
@@ -164,13 +169,10 @@ pub fn cut_days(file: &[u8], lists: Lists, start: u64, n: usize, spans: &mut [u6
     let mut s: usize = 0;
     let mut i: usize = 0;
     while i < n {
-        let owner = owner_at(file, own, start, n, i);
-        own = owner;
-        let condition = condition_at(file, held, start, n, i);
-        held = condition;
-        let end = earlier(own.end, held.end);
-        let groups = held.groups;
-        set_span(spans, s, end, own.provider, groups);
+        own = owner_at(file, own, start, n, i);
+        held = condition_at(file, held, start, n, i);
+        let end = own.end.min(held.end);
+        set_span(spans, s, end, own.provider, held.groups);
         s += 1;
         i = end;
     }

@@ -17,43 +17,44 @@ use Rattle.rules.specs.Good.{GoodBand, GoodMeter}
 use Rattle.rules.proofs.Shares.{days_eq}
 use Rattle.rules.proofs.Sums.{days_each}
 use Rattle.spans.specs.declared.Figures.{Figures}
-use Rattle.spans.specs.Spans.{end_in, begin_in, Cut, Sum, litres_sum, annual_sum, allowance_sum, threshold_sum, sum_in, Kept, figure_of, during, over_span, Grown, Room}
+use Rattle.spans.specs.declared.Span.{Span}
+use Rattle.spans.specs.Spans.{Sums, end_in, begin_in, Cut, Sum, litres_sum, annual_sum, allowance_sum, threshold_sum, sum_in, Kept, figure_of, during, over_span, Grown, Room}
 use Rattle.spans.proofs.Days.{during_in, during_zero, during_entry, span_within, begin_same, end_same, over_same, cut_same, kept_all, kept_both, grown_on, room_on, over_eq, over_le, over_add, over_none, over_is}
-use Rattle.meters.specs.Meters.{meter_of, weighed, Weights, Sums, meter_figure, sum_with, GrownWith, RoomWith, SumsClear, MetersIn}
+use Rattle.meters.specs.Meters.{meter_of, weighed, Weights, meter_figure, sum_with, GrownWith, RoomWith, SumsClear, MetersIn}
 use Rattle.meters.proofs.Advances.{litres_at}
 use Rattle.meters.proofs.Bounds.{Figure, annual_figure, allowance_figure, threshold_figure, band_most, meters_most}
 
 -- SUMS BESIDES
-module _ (every : Figures) {before after : List ℕ} (kept : Kept before after) where
+module _ (every : Figures) {before after : List Span} (kept : Kept before after) where
   sum_kept : (q : Sum) (s x : ℕ) → sum_in after q s ≡ sum_in before q s + x → sum_with every after q s ≡ sum_with every before q s + x
   unfolding sum_with
   sum_kept q s x e = omega (arith, e, ap (λ d. figure_of every q * d) {x = end_in after s - begin_in after s} {y = end_in before s - begin_in before s} (omega (arith, begin_same kept s, end_same kept s)))
 
-pub grown_with : (every : Figures) {before after : List ℕ} {m : ℕ} {f : Sum → ℕ → ℕ} → Grown before after m f → GrownWith every every before after m f
+pub grown_with : (every : Figures) {before after : List Span} {m : ℕ} {f : Sum → ℕ → ℕ} → Grown before after m f → GrownWith every every before after m f
 grown_with every g = record { kept = g.kept; sums = λ q s h. sum_kept every g.kept q s _ (g.sums q s h) }
 
-pub room_alone : (every : Figures) {spans : List ℕ} {m : ℕ} {f : Sum → ℕ → ℕ} → RoomWith every spans m f → Room spans m f
+pub room_alone : (every : Figures) {spans : List Span} {m : ℕ} {f : Sum → ℕ → ℕ} → RoomWith every spans m f → Room spans m f
 unfolding sum_with
 room_alone every r = record { fits = λ q s h. omega (arith, r.fits q s h) }
 
 -- there is room for less
-pub room_less : (every : Figures) {spans : List ℕ} {m : ℕ} {f g : Sum → ℕ → ℕ} → RoomWith every spans m f → ((q : Sum) (i : ℕ) → g q i ≤ f q i) → RoomWith every spans m g
+pub room_less : (every : Figures) {spans : List Span} {m : ℕ} {f g : Sum → ℕ → ℕ} → RoomWith every spans m f → ((q : Sum) (i : ℕ) → g q i ≤ f q i) → RoomWith every spans m g
 room_less every {spans} {f = f} {g} r h = record { fits = λ q s k. omega (arith, r.fits q s k, over_le spans s (g q) (f q) (h q)) }
 
 -- one after the other
-pub with_both : {e₁ e₂ e₃ : Figures} {a b c : List ℕ} {m : ℕ} {f g h : Sum → ℕ → ℕ} → GrownWith e₁ e₂ a b m f → GrownWith e₂ e₃ b c m g → ((q : Sum) (i : ℕ) → h q i ≡ f q i + g q i) → GrownWith e₁ e₃ a c m h
+pub with_both : {e₁ e₂ e₃ : Figures} {a b c : List Span} {m : ℕ} {f g h : Sum → ℕ → ℕ} → GrownWith e₁ e₂ a b m f → GrownWith e₂ e₃ b c m g → ((q : Sum) (i : ℕ) → h q i ≡ f q i + g q i) → GrownWith e₁ e₃ a c m h
 with_both {a = a} {f = f} {g} u v e =
     record {
       kept = kept_both u.kept v.kept;
       sums = λ q s k. omega (arith, v.sums q s k, u.sums q s k, over_same u.kept s (g q), over_add a s (f q) (g q), over_eq a s (λ i _ _. e q i));
     }
 
-room_after : {e₁ e₂ : Figures} {a b : List ℕ} {m : ℕ} {f g h : Sum → ℕ → ℕ} → GrownWith e₁ e₂ a b m f → RoomWith e₁ a m h → ((q : Sum) (i : ℕ) → h q i ≡ f q i + g q i) → RoomWith e₂ b m g
+room_after : {e₁ e₂ : Figures} {a b : List Span} {m : ℕ} {f g h : Sum → ℕ → ℕ} → GrownWith e₁ e₂ a b m f → RoomWith e₁ a m h → ((q : Sum) (i : ℕ) → h q i ≡ f q i + g q i) → RoomWith e₂ b m g
 room_after {a = a} {f = f} {g} u r e =
     record { fits = λ q s k. omega (arith, u.sums q s k, r.fits q s k, over_same u.kept s (g q), over_add a s (f q) (g q), over_eq a s (λ i _ _. e q i)) }
 
 -- FIGURES ON A METER'S DAYS
-module _ (n k start first last : ℕ) (each every : Figures) {spans : List ℕ} (cut : Cut spans n k) where
+module _ (n k start first last : ℕ) (each every : Figures) {spans : List Span} (cut : Cut spans n k) where
   abbrev on : Sum → ℕ → ℕ
   on q i = during first last (λ d. figure_of each q) (start + i)
 
@@ -65,7 +66,7 @@ module _ (n k start first last : ℕ) (each every : Figures) {spans : List ℕ} 
     pub figures_ask : RoomWith every spans k on → Room spans k (λ q. during from to (λ i. figure_of each q))
     figures_ask r = room_on cut (λ q i h. sym (entries q i h)) (room_alone every r)
 
-    pub figures_put : {after : List ℕ} → Grown spans after k (λ q. during from to (λ i. figure_of each q)) → GrownWith every every spans after k on
+    pub figures_put : {after : List Span} → Grown spans after k (λ q. during from to (λ i. figure_of each q)) → GrownWith every every spans after k on
     figures_put g = grown_with every (grown_on cut entries g)
 
     -- or they are on all days, of which there is one
@@ -148,7 +149,7 @@ module _ (file : List ℕ) (at : ℕ) {next : ℕ} {head : MeterHead} (e : (head
       parts_are allowance_sum i = omega (arith, weighed_is (λ b. b.allowance) w.allowance (start + i))
       parts_are threshold_sum i = omega (arith, weighed_is (λ b. b.threshold) w.threshold (start + i))
 
-      module _ {n k : ℕ} (every : Figures) {spans : List ℕ} (cut : Cut spans n k) (r : RoomWith every spans k (λ s i. meter_figure bs s (meter_at file at) (start + i))) where
+      module _ {n k : ℕ} (every : Figures) {spans : List Span} (cut : Cut spans n k) (r : RoomWith every spans k (λ s i. meter_figure bs s (meter_at file at) (start + i))) where
         -- what its reads ask
         pub meter_asks : after_meter at (meter_at file at) < 2 ^ 32 → GoodMeter (meter_at file at) →
             (after_reads next (reads file head.reads next) < 2 ^ 32) × ((GoodMeter (meter_of head (reads file head.reads next)) × Cut spans n k) × Room spans k litres)
@@ -157,12 +158,12 @@ module _ (file : List ℕ) (at : ℕ) {next : ℕ} {head : MeterHead} (e : (head
           ((rw meter_is g, cut), room_alone every (room_less every r (λ s i. omega (arith, parts_are s i)))),
         )
 
-        module _ {after : List ℕ} {end : ℕ} (read : (end ≡ after_reads next (reads file head.reads next)) × Grown spans after k litres) where
+        module _ {after : List Span} {end : ℕ} (read : (end ≡ after_reads next (reads file head.reads next)) × Grown spans after k litres) where
           -- what its figures ask
           pub during_asks : Cut after n k × RoomWith every after k figures
           during_asks = (cut_same read.1.kept cut, room_after (grown_with every read.1) r parts_are)
 
-          pub meter_added : {last : List ℕ} {more : Figures} → GrownWith every more after last k figures →
+          pub meter_added : {last : List Span} {more : Figures} → GrownWith every more after last k figures →
               (end ≡ after_meter at (meter_at file at)) × GrownWith every more spans last k (λ s i. meter_figure bs s (meter_at file at) (start + i))
           meter_added g = (read.0 ∙ meter_after, with_both (grown_with every read.1) g parts_are)
 
@@ -170,7 +171,7 @@ module _ (file : List ℕ) (at : ℕ) {next : ℕ} {head : MeterHead} (e : (head
 abbrev pub meters_of : List Band → List Meter → ℕ → Sum → ℕ → ℕ
 meters_of bs ms start q i = over ms (λ m. meter_figure bs q m (start + i))
 
-pub record MetersLeft (every : Figures) (before after : List ℕ) (n k start : ℕ) (bs : List Band) (all left : List Meter) : Type 0 where
+pub record MetersLeft (every : Figures) (before after : List Span) (n k start : ℕ) (bs : List Band) (all left : List Meter) : Type 0 where
   pub cut : Cut before n k
   pub good : All GoodMeter left
   pub kept : Kept before after
@@ -186,7 +187,7 @@ none_of annual_sum = refl
 none_of allowance_sum = refl
 none_of threshold_sum = refl
 
-pub meters_begin : {spans : List ℕ} {n k : ℕ} (start : ℕ) {bs : List Band} {ms : List Meter} → Cut spans n k → SumsClear spans k → n ≤ 366 → All GoodBand bs → All GoodMeter ms → length ms ≤ 16 →
+pub meters_begin : {spans : List Span} {n k : ℕ} (start : ℕ) {bs : List Band} {ms : List Meter} → Cut spans n k → SumsClear spans k → n ≤ 366 → All GoodBand bs → All GoodMeter ms → length ms ≤ 16 →
     MetersLeft nothing spans spans n k start bs ms ms
 unfolding sum_with
 meters_begin {spans} {n} {k} start {bs} {ms} cut clear few priced good small =
@@ -198,11 +199,11 @@ meters_begin {spans} {n} {k} start {bs} {ms} cut clear few priced good small =
       rest = λ q s h. omega (arith, clear q s h, ap (λ x. x * (end_in spans s - begin_in spans s)) (none_of q));
     }
 
-pub meters_end : {every : Figures} {before after : List ℕ} {n k start : ℕ} {bs : List Band} {ms : List Meter} → MetersLeft every before after n k start bs ms [] → MetersIn every before after k start bs ms
+pub meters_end : {every : Figures} {before after : List Span} {n k start : ℕ} {bs : List Band} {ms : List Meter} → MetersLeft every before after n k start bs ms [] → MetersIn every before after k start bs ms
 unfolding over
 meters_end {before = before} u = record { kept = u.kept; sums = λ q s h. omega (arith, u.rest q s h, over_none before s {f = λ i. 0} (λ i. refl)) }
 
-module _ {every : Figures} {before after : List ℕ} {n k start : ℕ} {bs : List Band} {all : List Meter} (m : Meter) (left : List Meter) (u : MetersLeft every before after n k start bs all (m ∷ left)) where
+module _ {every : Figures} {before after : List Span} {n k start : ℕ} {bs : List Band} {all : List Meter} (m : Meter) (left : List Meter) (u : MetersLeft every before after n k start bs all (m ∷ left)) where
   first_meter : (q : Sum) (s : ℕ) → over_span before s (meters_of bs (m ∷ left) start q) ≡ over_span before s (λ i. meter_figure bs q m (start + i)) + over_span before s (meters_of bs left start q)
   unfolding over
   first_meter q s = over_add before s (λ i. meter_figure bs q m (start + i)) (meters_of bs left start q)
@@ -214,7 +215,7 @@ module _ {every : Figures} {before after : List ℕ} {n k start : ℕ} {bs : Lis
     record { fits = λ q s h. omega (arith, u.rest q s h, u.room q s h, first_meter q s, over_same u.kept s (λ i. meter_figure bs q m (start + i))) },
   )
 
-  pub meters_turn : {next : List ℕ} {more : Figures} → GrownWith every more after next k (λ q i. meter_figure bs q m (start + i)) → MetersLeft more before next n k start bs all left
+  pub meters_turn : {next : List Span} {more : Figures} → GrownWith every more after next k (λ q i. meter_figure bs q m (start + i)) → MetersLeft more before next n k start bs all left
   meters_turn g =
       record {
         cut = u.cut;

@@ -15,6 +15,7 @@ use Rattle.rules.proofs.Shares.{div_mono, days_none}
 use Rattle.rules.proofs.Sums.{days_shift}
 use Rattle.records.proofs.Positions.{length_records}
 use Rattle.records.proofs.Ahead.{Ahead, read_one, read_past, ahead_done}
+use Rattle.spans.specs.declared.Span.{Span}
 use Rattle.spans.specs.Spans.{end_in, Cut, Reached, Holds, SumsAdded, RoomAt, Sum, litres_sum, annual_sum, allowance_sum, threshold_sum, litres_of, during, Grown, Room}
 use Rattle.spans.proofs.Days.{during_none, during_zero, during_entry, span_within, grown_on, grown_none, room_on, Adding, adding_none, adding_asks, adding_room, adding_more, reached_first, cut_same, reached_same, reached_before, Rest, rest_all, rest_room, rest_more, rest_none}
 use Rattle.meters.specs.declared.Advance.{Advance}
@@ -96,7 +97,7 @@ spread_nowhere n start litres parts first last h q i k = sym (sym (spread_entry 
 
 -- no charged day is between its days
 pub advance_nowhere : (n k start : ℕ) (a : Advance) {from to : ℕ} → from ≡ min (a.first - start) n → to ≡ min (a.last - start) n →
-    {l : List ℕ} → Cut l n k → Spreadable a.litres a.parts a.first a.last → to ≤ from → {s : ℕ} → Reached l k s (min (a.first - start) n) →
+    {l : List Span} → Cut l n k → Spreadable a.litres a.parts a.first a.last → to ≤ from → {s : ℕ} → Reached l k s (min (a.first - start) n) →
     Grown l l k (λ q i. litres_of (spread_of a (start + i)) q) × Reached l k s (min (a.last - start) n)
 advance_nowhere n k start a low top cut sp h r = (
   grown_on cut (λ q i j. spread_nowhere n start a.litres a.parts a.first a.last (omega arith) q i j) (grown_none (λ q i. refl)),
@@ -109,7 +110,7 @@ pub advance_day : (n start first last : ℕ) {from to : ℕ} → from ≡ min (f
 advance_day n start first last low top some h j = (omega arith, omega arith)
 
 -- THE LOOP over the spans that an advance meets, between the entries of its days: those before an entry are added, and carry `below`
-pub record Advancing (n k start : ℕ) (a : Advance) (l spans : List ℕ) (from to s i below : ℕ) : Type 0 where
+pub record Advancing (n k start : ℕ) (a : Advance) (l spans : List Span) (from to s i below : ℕ) : Type 0 where
   pub low : from ≡ min (a.first - start) n
   pub top : to ≡ min (a.last - start) n
   pub some : from < to
@@ -118,12 +119,12 @@ pub record Advancing (n k start : ℕ) (a : Advance) (l spans : List ℕ) (from 
   pub within : i ≤ to
 
 pub advancing_begin : (n k start : ℕ) (a : Advance) {from to : ℕ} → from ≡ min (a.first - start) n → to ≡ min (a.last - start) n → from < to →
-    {l : List ℕ} → Cut l n k → {s below : ℕ} → Reached l k s (min (a.first - start) n) →
+    {l : List Span} → Cut l n k → {s below : ℕ} → Reached l k s (min (a.first - start) n) →
     below ≡ carried_before a.litres a.parts (a.last - a.first) (start + from - a.first) → Advancing n k start a l l from to s from below
 advancing_begin n k start a {from} low top some {l} cut {s} r e =
     record { low = low; top = top; some = some; adding = adding_none cut from _ (subst (Reached l k s) (sym low) r); carries = e; within = omega arith }
 
-module _ {n k start : ℕ} {a : Advance} {l spans : List ℕ} {from to s i below : ℕ} (u : Advancing n k start a l spans from to s i below) where
+module _ {n k start : ℕ} {a : Advance} {l spans : List Span} {from to s i below : ℕ} (u : Advancing n k start a l spans from to s i below) where
   pub advancing_asks : i < to → Cut spans n k × Reached spans k s i × (i < n)
   advancing_asks h = adding_asks u.adding (omega (arith, u.top))
 
@@ -131,7 +132,7 @@ module _ {n k start : ℕ} {a : Advance} {l spans : List ℕ} {from to s i below
   advancing_day h j = (advance_day n start a.first a.last u.low u.top u.some (omega (arith, u.adding.begun)) j).1
 
   -- up to the end of the span that holds the entry, or of the advance
-  module _ {t end : ℕ} (holds : Holds spans k i t) (ends : end ≡ end_in spans t) {stop up : ℕ} (stops : stop ≡ min end to) (h : i < to)
+  module _ {t : ℕ} (holds : Holds spans k i t) {stop up : ℕ} (stops : stop ≡ min (end_in spans t) to) (h : i < to)
       (e : up ≡ carried_before a.litres a.parts (a.last - a.first) (start + stop - a.first)) where
     forward : i ≤ stop
     forward = omega (arith, holds.lasts)
@@ -153,7 +154,7 @@ module _ {n k start : ℕ} {a : Advance} {l spans : List ℕ} {from to s i below
         (λ q j b. sym (rw (u.low, u.top) (spread_entry n start a.litres a.parts a.first a.last q j b))) r in
         adding_room u.adding holds forward (omega arith) r' (omega arith) _ piece
 
-    pub advancing_turn : {next : List ℕ} → SumsAdded spans next t (litres_of (up - below)) → Advancing n k start a l next from to t stop up
+    pub advancing_turn : {next : List Span} → SumsAdded spans next t (litres_of (up - below)) → Advancing n k start a l next from to t stop up
     advancing_turn v =
         record {
           low = u.low;
@@ -172,7 +173,7 @@ module _ {n k start : ℕ} {a : Advance} {l spans : List ℕ} {from to s i below
       )
 
 -- ONE SPAN that holds all days of an advance has it whole
-module _ (n k start : ℕ) (a : Advance) {l : List ℕ} {s : ℕ} (cut : Cut l n k) (sp : Spreadable a.litres a.parts a.first a.last) (r : Reached l k s (min (a.first - start) n))
+module _ (n k start : ℕ) (a : Advance) {l : List Span} {s : ℕ} (cut : Cut l n k) (sp : Spreadable a.litres a.parts a.first a.last) (r : Reached l k s (min (a.first - start) n))
     (holds : (s < k) × (start ≤ a.first) × (a.last - start ≤ end_in l s)) where
   abbrev from : ℕ
   from = min (a.first - start) n
@@ -199,10 +200,10 @@ module _ (n k start : ℕ) (a : Advance) {l : List ℕ} {s : ℕ} (cut : Cut l n
   less_none = omega arith
 
   pub whole_room : Room l k (λ q j. litres_of (spread_of a (start + j)) q) → RoomAt l s (litres_of (a.litres * a.parts / 10000))
-  whole_room room = subst (λ x. RoomAt l s (litres_of x)) less_none (advancing_room none_taken held refl stops some_day whole room)
+  whole_room room = subst (λ x. RoomAt l s (litres_of x)) less_none (advancing_room none_taken held stops some_day whole room)
 
-  pub whole_added : {next : List ℕ} → SumsAdded l next s (litres_of (a.litres * a.parts / 10000)) → Grown l next k (λ q j. litres_of (spread_of a (start + j)) q) × Reached l k s (min (a.last - start) n)
-  whole_added {next} v = advancing_end (advancing_turn none_taken held refl stops some_day whole (subst (λ x. SumsAdded l next s (litres_of x)) (sym less_none) v)) (le_refl to)
+  pub whole_added : {next : List Span} → SumsAdded l next s (litres_of (a.litres * a.parts / 10000)) → Grown l next k (λ q j. litres_of (spread_of a (start + j)) q) × Reached l k s (min (a.last - start) n)
+  whole_added {next} v = advancing_end (advancing_turn none_taken held stops some_day whole (subst (λ x. SumsAdded l next s (litres_of x)) (sym less_none) v)) (le_refl to)
 
 -- BETWEEN TWO READS
 dial_most : {m : MeterHead} → GoodMeterHead m → dial_values m.digits ≤ 100000000
@@ -261,7 +262,7 @@ litres_zero allowance_sum = refl
 litres_zero threshold_sum = refl
 
 -- what is left of a meter's reads, after `earlier`; `rs` are all of them. The next advance begins at a span that is reached
-pub record ReadsLeft (m : MeterHead) (rs : List Read) (earlier : Read) (before after : List ℕ) (n k start s : ℕ) (left : List Read) : Type 0 where
+pub record ReadsLeft (m : MeterHead) (rs : List Read) (earlier : Read) (before after : List Span) (n k start s : ℕ) (left : List Read) : Type 0 where
   pub sound : GoodMeterHead m
   pub each : All (GoodRead m) (earlier ∷ left)
   pub advances : GoodAdvances m (earlier ∷ left)
@@ -269,7 +270,7 @@ pub record ReadsLeft (m : MeterHead) (rs : List Read) (earlier : Read) (before a
   pub rest : Rest before after k (litres_at start (from_reads (meter_of m rs) (earlier ∷ left))) (litres_at start (meter_litres (meter_of m rs)))
   pub reached : Reached before k s (min (earlier.day - start) n)
 
-module _ {m : MeterHead} {rs left : List Read} {earlier later : Read} {l a : List ℕ} {n k start s : ℕ} {advance : Advance} (of : AdvanceOf m earlier later advance)
+module _ {m : MeterHead} {rs left : List Read} {earlier later : Read} {l a : List Span} {n k start s : ℕ} {advance : Advance} (of : AdvanceOf m earlier later advance)
     (u : ReadsLeft m rs earlier l a n k start s (later ∷ left)) where
   next_read : (q : Sum) (i : ℕ) → litres_at start (from_reads (meter_of m rs) (earlier ∷ later ∷ left)) q i ≡ litres_at start (spread_of advance) q i + litres_at start (from_reads (meter_of m rs) (later ∷ left)) q i
   unfolding from_reads
@@ -286,7 +287,7 @@ module _ {m : MeterHead} {rs left : List Read} {earlier later : Read} {l a : Lis
     ),
   )
 
-  pub reads_turn : {b : List ℕ} {t : ℕ} → Grown a b k (litres_at start (spread_of advance)) → Reached a k t (min (advance.last - start) n) → ReadsLeft m rs later l b n k start t left
+  pub reads_turn : {b : List Span} {t : ℕ} → Grown a b k (litres_at start (spread_of advance)) → Reached a k t (min (advance.last - start) n) → ReadsLeft m rs later l b n k start t left
   reads_turn {b} {t} g r =
       record {
         sound = u.sound;
@@ -297,11 +298,11 @@ module _ {m : MeterHead} {rs left : List Read} {earlier later : Read} {l a : Lis
         reached = subst (λ d. Reached l k t (min (d - start) n)) of.last (reached_before u.rest.kept r);
       }
 
-reads_end : {m : MeterHead} {rs : List Read} {earlier : Read} {l a : List ℕ} {n k start s : ℕ} → ReadsLeft m rs earlier l a n k start s [] → Grown l a k (litres_at start (meter_litres (meter_of m rs)))
+reads_end : {m : MeterHead} {rs : List Read} {earlier : Read} {l a : List Span} {n k start s : ℕ} → ReadsLeft m rs earlier l a n k start s [] → Grown l a k (litres_at start (meter_litres (meter_of m rs)))
 unfolding from_reads
 reads_end u = rest_none u.rest (λ q i. litres_zero q)
 
-pub no_reads : (file : List ℕ) (m : MeterHead) (n at start k : ℕ) {l : List ℕ} → n ≡ 0 → (at ≡ after_reads at (reads file n at)) × Grown l l k (litres_at start (meter_litres (meter_of m (reads file n at))))
+pub no_reads : (file : List ℕ) (m : MeterHead) (n at start k : ℕ) {l : List Span} → n ≡ 0 → (at ≡ after_reads at (reads file n at)) × Grown l l k (litres_at start (meter_litres (meter_of m (reads file n at))))
 unfolding records after meter_litres from_reads
 no_reads file m n at start k {l} z =
     subst (λ n. (at ≡ after_reads at (reads file n at)) × Grown l l k (litres_at start (meter_litres (meter_of m (reads file n at))))) (sym z)
@@ -325,7 +326,7 @@ module _ (file : List ℕ) (m : MeterHead) (at start n k : ℕ) where
     begins : all ≡ first ∷ later
     begins = read_one (read_at file) (λ at r. after_read at) m.reads at h e
 
-    pub reads_begin : {l : List ℕ} → Cut l n k → GoodMeter (meter_of m all) → Room l k (litres_at start (meter_litres (meter_of m all))) →
+    pub reads_begin : {l : List Span} → Cut l n k → GoodMeter (meter_of m all) → Room l k (litres_at start (meter_litres (meter_of m all))) →
         Ahead (read_at file) (λ at r. after_read at) (m.reads - 1) next (after_reads next later) (ReadsLeft m (first ∷ later) first l l n k start 0)
     unfolding meter_litres
     reads_begin {l} cut g r =
@@ -345,7 +346,7 @@ module _ (file : List ℕ) (m : MeterHead) (at start n k : ℕ) where
               };
         }
 
-    pub reads_done : {l a : List ℕ} {left last s : ℕ} {earlier : Read} → left ≡ 0 →
+    pub reads_done : {l a : List Span} {left last s : ℕ} {earlier : Read} → left ≡ 0 →
         Ahead (read_at file) (λ at r. after_read at) left last (after_reads next later) (ReadsLeft m (first ∷ later) earlier l a n k start s) →
         (last ≡ after_reads at all) × Grown l a k (litres_at start (meter_litres (meter_of m all)))
     reads_done {l} {a} z u =

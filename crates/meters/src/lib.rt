@@ -1,20 +1,20 @@
 #![tactic(auto)]
 // The meters of a supply point, added to its spans: the litres of their advances, and their bands' figures on their meter days. Each record of the
 // point's meters is read once.
-ghost use Rattle.std.specs.Prelude.{◌≡◌, ◌+◌, ◌-◌, ◌*◌, ◌≤◌, ◌<◌, ◌^◌, min, []};
+ghost use Rattle.std.specs.Prelude.{◌≡◌, ◌↔◌, IsTrue, ◌+◌, ◌-◌, ◌*◌, ◌≤◌, ◌<◌, ◌^◌, min, []};
 ghost use Rattle.rules.specs.File.{reads, bands as bands_from, meter_at, meters as meters_from, after_reads, after_meter, after_meters};
 ghost use Rattle.rules.specs.Litres.{dial_values, advance, carried_before, meter_litres};
 ghost use Rattle.rules.specs.Good.{GoodMeterHead, GoodRead, GoodAdvance, GoodMeter};
 ghost use Rattle.bands.specs.Bands.{SizesOf};
 ghost use Rattle.spans.specs.Spans.{end_in, Cut, Reached, litres_of, figure_of, during, Grown, Room};
-ghost use Rattle.meters.specs.Meters.{Says, Spreadable, spread_of, meter_of, AdvanceOf, Weights, Sums, meter_figure, RoomWith, GrownWith, GoodBands, GoodMeters, SumsClear, MetersIn};
+ghost use Rattle.meters.specs.Meters.{Spreadable, spread_of, meter_of, AdvanceOf, Weights, meter_figure, RoomWith, GrownWith, GoodBands, GoodMeters, SumsClear, MetersIn};
 
 use bands::band_for;
 use bits::Cursor;
 use charged::entry;
 use judges::dial_values;
 use rules::{Band, MeterHead, Read};
-use spans::{Figures, SpanDays, add_figures, add_litres, earlier, span_end, span_with};
+use spans::{Figures, Span, SpanDays, add_figures, add_litres, span_with};
 
 // So many litres from a day on, before another, of which `parts` ten-thousandths count: share × return.
 #[derive(Clone, Copy)]
@@ -43,7 +43,7 @@ fn carried_before(a: Advance, day: u64) -> u64
 
 // An advance is added to the spans that its days meet: each has what the days before its end carry, less what those before its beginning carry, so
 // that no litre is lost. It begins at a span that does not begin after it, and hands back one that does not begin after its end.
-fn add_advance(spans: &mut [u64], days: SpanDays, from: usize, a: Advance) -> usize
+fn add_advance(spans: &mut [Span], days: SpanDays, from: usize, a: Advance) -> usize
     requires cut { Cut spans.old days.count days.spans × Spreadable a.litres a.parts a.first a.last }
     requires reached_2 { Reached spans.old days.spans «from» (min (a.first - days.start) days.count) }
     requires room { Room spans.old days.spans (λ q i. litres_of (spread_of a (days.start + i)) q) }
@@ -59,7 +59,7 @@ fn add_advance(spans: &mut [u64], days: SpanDays, from: usize, a: Advance) -> us
     let mut before = carried_before(a, days.start + i as u64);
     while i < to {
         s = span_with(spans, days, s, i);
-        let stop = earlier(span_end(spans, s), to);
+        let stop = spans[s].end.min(to);
         let up = carried_before(a, days.start + stop as u64);
         add_litres(spans, s, up - before);
         before = up;
@@ -69,24 +69,16 @@ fn add_advance(spans: &mut [u64], days: SpanDays, from: usize, a: Advance) -> us
 }
 
 // Whether the span at a place holds all days of an advance that it does not begin after.
-fn holds_all(spans: &[u64], days: SpanDays, s: usize, a: Advance) -> bool
+#[tactic(auto, unfolding(spans::specs::Spans::span_in))]
+fn holds_all(spans: &[Span], days: SpanDays, s: usize, a: Advance) -> bool
     requires { Cut spans.now days.count days.spans × (a.first < a.last) }
-    ensures { Says result ((s < days.spans) × (days.start ≤ a.first) × (a.last - days.start ≤ end_in spans.now s)) }
+    ensures { IsTrue result ↔ ((s < days.spans) × (days.start ≤ a.first) × (a.last - days.start ≤ end_in spans.now s)) }
 {
-    if days.spans <= s {
-        return false;
-    }
-    if a.first < days.start {
-        return false;
-    }
-    if (span_end(spans, s) as u64) < a.last - days.start {
-        return false;
-    }
-    true
+    s < days.spans && days.start <= a.first && a.last - days.start <= spans[s].end as u64
 }
 
 // An advance that one span holds, as most are held, is added to it whole, and none of its days is asked for. Any other is cut at the spans' ends.
-fn spread_advance(spans: &mut [u64], days: SpanDays, from: usize, a: Advance) -> usize
+fn spread_advance(spans: &mut [Span], days: SpanDays, from: usize, a: Advance) -> usize
     requires cut { Cut spans.old days.count days.spans × Spreadable a.litres a.parts a.first a.last }
     requires reached_2 { Reached spans.old days.spans «from» (min (a.first - days.start) days.count) }
     requires room { Room spans.old days.spans (λ q i. litres_of (spread_of a (days.start + i)) q) }
@@ -123,7 +115,7 @@ fn advance_of(head: MeterHead, dial: u64, earlier: Read, later: Read) -> Advance
 }
 
 // A meter's litres, from its reads. Their days ascend, so that each advance begins at the span where the one before it ended.
-fn add_reads(file: &[u8], c: Cursor, head: MeterHead, spans: &mut [u64], days: SpanDays) -> Cursor
+fn add_reads(file: &[u8], c: Cursor, head: MeterHead, spans: &mut [Span], days: SpanDays) -> Cursor
     requires at_bound { after_reads c.at (reads file.now head.reads c.at) < 2 ^ 32 }
     requires good_meter { GoodMeter (meter_of head (reads file.now head.reads c.at)) × Cut spans.old days.count days.spans }
     requires room { Room spans.old days.spans (λ q i. litres_of (meter_litres (meter_of head (reads file.now head.reads c.at)) (days.start + i)) q) }
@@ -137,16 +129,14 @@ fn add_reads(file: &[u8], c: Cursor, head: MeterHead, spans: &mut [u64], days: S
     let mut earlier = first.value;
     let mut next = first.next;
     let mut s: usize = 0;
-    let mut left = head.reads - 1;
     let dial = dial_values(head.digits);
-    while 0 < left {
+    for _ in 1..head.reads {
         let taken = records::read(file, next);
         let later = taken.value;
         let advance = advance_of(head, dial, earlier, later);
         s = spread_advance(spans, days, s, advance);
         earlier = later;
         next = taken.next;
-        left -= 1;
     }
     next
 }
@@ -156,39 +146,19 @@ fn figures_of(band: Band, share: u64) -> Figures
     requires { (band.annual * share < 2 ^ 64) × (band.allowance * share < 2 ^ 64) × (band.threshold * share < 2 ^ 64) }
     ensures { Weights band share result }
 {
-    Figures {
-        annual: band.annual * share,
-        allowance: band.allowance * share,
-        threshold: band.threshold * share,
-    }
-}
-
-// The sums of two.
-fn both(a: Figures, b: Figures) -> Figures
-    requires { (a.annual + b.annual < 2 ^ 64) × (a.allowance + b.allowance < 2 ^ 64) × (a.threshold + b.threshold < 2 ^ 64) }
-    ensures { Sums a b result }
-{
-    Figures {
-        annual: a.annual + b.annual,
-        allowance: a.allowance + b.allowance,
-        threshold: a.threshold + b.threshold,
-    }
+    let each = Figures {
+        annual: band.annual,
+        allowance: band.allowance,
+        threshold: band.threshold,
+    };
+    each * share
 }
 
 // Whether there is a day, and entries from one on, before another, are all there are.
 fn on_all_days(days: SpanDays, from: usize, to: usize) -> bool
-    ensures { Says result ((«from» ≡ 0) × (to ≡ days.count) × (0 < to)) }
+    ensures { IsTrue result ↔ ((«from» ≡ 0) × (to ≡ days.count) × (0 < to)) }
 {
-    if from != 0 {
-        return false;
-    }
-    if to != days.count {
-        return false;
-    }
-    if to == 0 {
-        return false;
-    }
-    true
+    from == 0 && to == days.count && 0 < to
 }
 
 // Where a tariff's bands begin, and how many there are.
@@ -207,7 +177,7 @@ pub struct MetersAdded {
 
 // The figures of a meter that is there on all days, as most are, are only added to `every`, what every day has besides what stands in the sums.
 fn add_during(
-    spans: &mut [u64],
+    spans: &mut [Span],
     days: SpanDays,
     head: MeterHead,
     each: Figures,
@@ -220,7 +190,7 @@ fn add_during(
     let from = entry(days.count, days.start, head.installed);
     let to = entry(days.count, days.start, head.removed);
     if on_all_days(days, from, to) {
-        return both(every, each);
+        return every + each;
     }
     add_figures(spans, days, from, to, each);
     every
@@ -232,7 +202,7 @@ fn add_meter<'a>(
     c: Cursor,
     bands: Bands,
     sizes: &'a [u64],
-    spans: &mut [u64],
+    spans: &mut [Span],
     days: SpanDays,
     every: Figures,
 ) -> MetersAdded
@@ -260,7 +230,7 @@ pub fn add_meters<'a>(
     count: u64,
     bands: Bands,
     sizes: &'a [u64],
-    spans: &mut [u64],
+    spans: &mut [Span],
     days: SpanDays,
 ) -> MetersAdded
     requires good_meters { GoodMeters file.now count c.at × GoodBands file.now bands.count bands.first.at }
@@ -269,18 +239,12 @@ pub fn add_meters<'a>(
     ensures ends { result.next.at ≡ after_meters c.at (meters_from file.now count c.at) }
     ensures sums { MetersIn result.every spans.old spans.new days.spans days.start (bands_from file.now bands.count bands.first.at) (meters_from file.now count c.at) }
 {
-    let mut every = Figures {
-        annual: 0,
-        allowance: 0,
-        threshold: 0,
-    };
+    let mut every = Figures::NONE;
     let mut next = c;
-    let mut left = count;
-    while 0 < left {
+    for _ in 0..count {
         let added = add_meter(file, next, bands, sizes, spans, days, every);
         every = added.every;
         next = added.next;
-        left -= 1;
     }
     MetersAdded { next, every }
 }

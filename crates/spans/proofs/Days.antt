@@ -1,6 +1,6 @@
 -- Days added to spans: what some days have is cut at the spans' ends, and each piece is added to the span that holds it. Every law is over any
 -- function of days. Assumes nothing.
-use Prim.Native.Nat.{ℕ, zero, suc, ◌+◌, ◌-◌, ◌*◌, ◌≤◌, ◌<◌, min, max, zero-le}
+use Prim.Native.Nat.{ℕ, zero, suc, ◌+◌, ◌-◌, ◌≤◌, ◌<◌, min, max, zero-le}
 use mathlib.Core.Path.{◌≡◌, refl, sym, ap, ◌∙◌, subst}
 use mathlib.Core.Logic.{◌⊎◌, inl, inr}
 use mathlib.Core.List.{List}
@@ -14,6 +14,7 @@ use Rattle.rules.specs.Sums.{only, over_days}
 use Rattle.rules.proofs.Lists.{three}
 use Rattle.rules.proofs.Shares.{days_eq, days_add, days_none}
 use Rattle.rules.proofs.Sums.{days_le, days_split}
+use Rattle.spans.specs.declared.Span.{Span}
 use Rattle.spans.specs.Spans.{end_in, begin_in, Cut, Reached, Holds, Sum, sum_in, SumsAdded, Kept, RoomAt, during, over_span, Grown, Room}
 
 -- F ON SOME DAYS
@@ -101,7 +102,7 @@ module _ (b n i to : ℕ) (f : ℕ → ℕ) where
   range_after h = days_eq b n (λ d k l. during_after i to f d (omega arith)) ∙ days_none b n
 
 -- SPANS IN THEIR ORDER
-module _ {spans : List ℕ} {n m : ℕ} (cut : Cut spans n m) where
+module _ {spans : List Span} {n m : ℕ} (cut : Cut spans n m) where
   later : (s t : ℕ) → suc (s + t) ≤ m → end_in spans s ≤ begin_in spans (suc (s + t))
   unfolding begin_in
   later s zero h = let e : s + 0 ≡ s = omega arith in rw e (le_refl _)
@@ -154,49 +155,49 @@ module _ {spans : List ℕ} {n m : ℕ} (cut : Cut spans n m) where
         ∙ ap (λ x. over_span spans t (during from i f) + x) (span_piece t h (three t s))
 
 -- equal functions have equal sums, and smaller ones smaller
-pub over_eq : (spans : List ℕ) (s : ℕ) {f g : ℕ → ℕ} → ((i : ℕ) → begin_in spans s ≤ i → i < end_in spans s → f i ≡ g i) → over_span spans s f ≡ over_span spans s g
+pub over_eq : (spans : List Span) (s : ℕ) {f g : ℕ → ℕ} → ((i : ℕ) → begin_in spans s ≤ i → i < end_in spans s → f i ≡ g i) → over_span spans s f ≡ over_span spans s g
 unfolding over_span
 over_eq spans s h = days_eq _ _ (λ d k l. h d k (omega arith))
 
-pub over_le : (spans : List ℕ) (s : ℕ) (f g : ℕ → ℕ) → ((i : ℕ) → f i ≤ g i) → over_span spans s f ≤ over_span spans s g
+pub over_le : (spans : List Span) (s : ℕ) (f g : ℕ → ℕ) → ((i : ℕ) → f i ≤ g i) → over_span spans s f ≤ over_span spans s g
 unfolding over_span
 over_le spans s f g h = days_le _ _ f g h
 
-pub over_none : (spans : List ℕ) (s : ℕ) {f : ℕ → ℕ} → ((i : ℕ) → f i ≡ 0) → over_span spans s f ≡ 0
+pub over_none : (spans : List Span) (s : ℕ) {f : ℕ → ℕ} → ((i : ℕ) → f i ≡ 0) → over_span spans s f ≡ 0
 unfolding over_span
 over_none spans s h = days_eq _ _ (λ d k l. h d) ∙ days_none _ _
 
-pub over_add : (spans : List ℕ) (s : ℕ) (f g : ℕ → ℕ) → over_span spans s (λ i. f i + g i) ≡ over_span spans s f + over_span spans s g
+pub over_add : (spans : List Span) (s : ℕ) (f g : ℕ → ℕ) → over_span spans s (λ i. f i + g i) ≡ over_span spans s f + over_span spans s g
 unfolding over_span
 over_add spans s f g = days_add _ _ f g
 
 -- as days that stand side by side
-pub over_is : (spans : List ℕ) (s : ℕ) (f : ℕ → ℕ) → over_span spans s f ≡ over_days (begin_in spans s) (end_in spans s - begin_in spans s) f
+pub over_is : (spans : List Span) (s : ℕ) (f : ℕ → ℕ) → over_span spans s f ≡ over_days (begin_in spans s) (end_in spans s - begin_in spans s) f
 unfolding over_span
 over_is spans s f = refl
 
 -- THE LOOP over the spans that some days meet: those before an entry are added
-pub record Adding (before after : List ℕ) (n m from s i : ℕ) (f : Sum → ℕ → ℕ) : Type 0 where
+pub record Adding (before after : List Span) (n m from s i : ℕ) (f : Sum → ℕ → ℕ) : Type 0 where
   pub cut : Cut before n m
   pub grown : Grown before after m (λ q. during from i (f q))
   pub begun : from ≤ i
   pub reached : Reached before m s i
 
 -- WHAT STANDS OF A SPAN BESIDES ITS SUMS stays
-pub kept_all : {spans : List ℕ} → Kept spans spans
-kept_all = record { long = refl; heads = λ s k h. refl }
+pub kept_all : {spans : List Span} → Kept spans spans
+kept_all = record { long = refl; ends = λ s. refl; owners = λ s. refl; groups = λ s. refl }
 
-pub kept_both : {a b c : List ℕ} → Kept a b → Kept b c → Kept a c
-kept_both u v = record { long = v.long ∙ u.long; heads = λ s k h. v.heads s k h ∙ u.heads s k h }
+pub kept_both : {a b c : List Span} → Kept a b → Kept b c → Kept a c
+kept_both u v = record { long = v.long ∙ u.long; ends = λ s. v.ends s ∙ u.ends s; owners = λ s. v.owners s ∙ u.owners s; groups = λ s. v.groups s ∙ u.groups s }
 
-module _ {before after : List ℕ} (kept : Kept before after) where
+module _ {before after : List Span} (kept : Kept before after) where
   pub begin_same : (s : ℕ) → begin_in after s ≡ begin_in before s
   unfolding begin_in
   begin_same zero = refl
-  begin_same (suc s) = kept.heads s 0 (omega arith)
+  begin_same (suc s) = kept.ends s
 
   pub end_same : (s : ℕ) → end_in after s ≡ end_in before s
-  end_same s = kept.heads s 0 (omega arith)
+  end_same s = kept.ends s
 
   pub cut_same : {n m : ℕ} → Cut before n m → Cut after n m
   cut_same {m = m} c =
@@ -216,39 +217,39 @@ module _ {before after : List ℕ} (kept : Kept before after) where
   unfolding over_span
   over_same s h = ap (λ b. over_days b (end_in after s - b) h) (begin_same s) ∙ ap (λ e. over_days (begin_in before s) (e - begin_in before s) h) (end_same s)
 
-pub grown_none : {spans : List ℕ} {m : ℕ} {f : Sum → ℕ → ℕ} → ((q : Sum) (i : ℕ) → f q i ≡ 0) → Grown spans spans m f
+pub grown_none : {spans : List Span} {m : ℕ} {f : Sum → ℕ → ℕ} → ((q : Sum) (i : ℕ) → f q i ≡ 0) → Grown spans spans m f
 grown_none {spans} z = record { kept = kept_all; sums = λ q s h. omega (arith, over_none spans s (z q)) }
 
-pub grown_as : {before after : List ℕ} {m : ℕ} {f g : Sum → ℕ → ℕ} → ((q : Sum) (i : ℕ) → f q i ≡ g q i) → Grown before after m f → Grown before after m g
+pub grown_as : {before after : List Span} {m : ℕ} {f g : Sum → ℕ → ℕ} → ((q : Sum) (i : ℕ) → f q i ≡ g q i) → Grown before after m f → Grown before after m g
 grown_as {before} e u =
     record { kept = u.kept; sums = λ q s h. u.sums q s h ∙ ap (λ x. sum_in before q s + x) (over_eq before s (λ i k l. e q i)) }
 
 -- by functions that are the same on the days of the spans
-pub grown_on : {before after : List ℕ} {n m : ℕ} {f g : Sum → ℕ → ℕ} → Cut before n m → ((q : Sum) (i : ℕ) → i < n → f q i ≡ g q i) → Grown before after m f → Grown before after m g
+pub grown_on : {before after : List Span} {n m : ℕ} {f g : Sum → ℕ → ℕ} → Cut before n m → ((q : Sum) (i : ℕ) → i < n → f q i ≡ g q i) → Grown before after m f → Grown before after m g
 grown_on {before} cut e u =
     record {
       kept = u.kept;
       sums = λ q s h. u.sums q s h ∙ ap (λ x. sum_in before q s + x) (over_eq before s (λ i k l. e q i (omega (arith, span_within cut s h))));
     }
 
-pub room_on : {spans : List ℕ} {n m : ℕ} {f g : Sum → ℕ → ℕ} → Cut spans n m → ((q : Sum) (i : ℕ) → i < n → f q i ≡ g q i) → Room spans m f → Room spans m g
+pub room_on : {spans : List Span} {n m : ℕ} {f g : Sum → ℕ → ℕ} → Cut spans n m → ((q : Sum) (i : ℕ) → i < n → f q i ≡ g q i) → Room spans m f → Room spans m g
 room_on {spans} cut e r =
     record { fits = λ q s h. omega (arith, r.fits q s h, over_eq spans s (λ i k l. e q i (omega (arith, span_within cut s h)))) }
 
 -- THE REST: in a loop over records that add, what the spans have and what is still to come are what they had and the whole
-pub record Rest (before after : List ℕ) (m : ℕ) (rest whole : Sum → ℕ → ℕ) : Type 0 where
+pub record Rest (before after : List Span) (m : ℕ) (rest whole : Sum → ℕ → ℕ) : Type 0 where
   pub kept : Kept before after
   pub sums : (q : Sum) (s : ℕ) → s < m → sum_in after q s + over_span before s (rest q) ≡ sum_in before q s + over_span before s (whole q)
 
-pub rest_all : {spans : List ℕ} {m : ℕ} {whole : Sum → ℕ → ℕ} → Rest spans spans m whole whole
+pub rest_all : {spans : List Span} {m : ℕ} {whole : Sum → ℕ → ℕ} → Rest spans spans m whole whole
 rest_all = record { kept = kept_all; sums = λ q s h. refl }
 
-module _ {before after : List ℕ} {m : ℕ} {rest whole : Sum → ℕ → ℕ} (u : Rest before after m rest whole) where
+module _ {before after : List Span} {m : ℕ} {rest whole : Sum → ℕ → ℕ} (u : Rest before after m rest whole) where
   pub rest_room : {f : Sum → ℕ → ℕ} → Room before m whole → ((q : Sum) (i : ℕ) → f q i ≤ rest q i) → Room after m f
   rest_room {f} r h =
       record { fits = λ q s k. omega (arith, u.sums q s k, r.fits q s k, over_same u.kept s (f q), over_le before s (f q) (rest q) (h q)) }
 
-  pub rest_more : {next : List ℕ} {f left : Sum → ℕ → ℕ} → Grown after next m f → ((q : Sum) (i : ℕ) → rest q i ≡ f q i + left q i) → Rest before next m left whole
+  pub rest_more : {next : List Span} {f left : Sum → ℕ → ℕ} → Grown after next m f → ((q : Sum) (i : ℕ) → rest q i ≡ f q i + left q i) → Rest before next m left whole
   rest_more {f = f} {left} g e =
       record {
         kept = kept_both u.kept g.kept;
@@ -258,11 +259,11 @@ module _ {before after : List ℕ} {m : ℕ} {rest whole : Sum → ℕ → ℕ} 
   pub rest_none : ((q : Sum) (i : ℕ) → rest q i ≡ 0) → Grown before after m whole
   rest_none z = record { kept = u.kept; sums = λ q s k. omega (arith, u.sums q s k, over_none before s (z q)) }
 
-module _ {before : List ℕ} {n m : ℕ} (cut : Cut before n m) (from : ℕ) (f : Sum → ℕ → ℕ) where
+module _ {before : List Span} {n m : ℕ} (cut : Cut before n m) (from : ℕ) (f : Sum → ℕ → ℕ) where
   pub adding_none : {s : ℕ} → Reached before m s from → Adding before before n m from s from f
   adding_none r = record { cut = cut; grown = grown_none (λ q e. during_none from from (f q) e (le_refl from)); begun = le_refl from; reached = r }
 
-module _ {before after : List ℕ} {n m from s i : ℕ} {f : Sum → ℕ → ℕ} (u : Adding before after n m from s i f) where
+module _ {before after : List Span} {n m from s i : ℕ} {f : Sum → ℕ → ℕ} (u : Adding before after n m from s i f) where
   -- what the search for the next span asks
   pub adding_asks : i < n → Cut after n m × Reached after m s i × (i < n)
   adding_asks h = (
@@ -280,7 +281,7 @@ module _ {before after : List ℕ} {n m from s i : ℕ} {f : Sum → ℕ → ℕ
           lasts = omega (arith, holds.lasts, end_same u.grown.kept t);
         }
 
-    pub held_room : t * 8 + 8 ≤ length after
+    pub held_room : t < length after
     held_room = omega (arith, holds.within, u.cut.room, u.grown.kept.long)
 
     module _ {stop : ℕ} (forward : i ≤ stop) (within : stop ≤ end_in after t) where
@@ -303,7 +304,7 @@ module _ {before after : List ℕ} {n m from s i : ℕ} {f : Sum → ℕ → ℕ
                 omega (arith, u.grown.sums q t holds.within, step q t holds.within, here, over_le before t _ _ (during_less to h q), r.fits q t holds.within);
           }
 
-      pub adding_more : {next : List ℕ} (x : Sum → ℕ) → ((q : Sum) → x q ≡ over_days i (stop - i) (f q)) → SumsAdded after next t x → Adding before next n m from t stop f
+      pub adding_more : {next : List Span} (x : Sum → ℕ) → ((q : Sum) → x q ≡ over_days i (stop - i) (f q)) → SumsAdded after next t x → Adding before next n m from t stop f
       adding_more {next} x e v =
           record {
             cut = u.cut;

@@ -2,7 +2,7 @@
 use native.Mathlib.Omega.{arith}
 use native.Mathlib.Nat.{le_refl}
 use Rattle.meters.proofs.Advances.{advance_nowhere, advance_day, advancing_begin, advancing_asks, advancing_day, advancing_grows, advancing_room, advancing_turn, advancing_end}
-use Rattle.spans.proofs.Days.{held_room}
+use Rattle.spans.specs.Spans.{span_in}
 use Rattle.meters.proofs.add_advance.Goals as goal
 
 pub returns-then-to-i : goal.returns-then-to-i
@@ -22,26 +22,29 @@ loop-i-init c = advancing_begin _ _ _ _ c.entry-i.ensures c.entry-to.ensures (om
 pub span_with-s-requires : goal.span_with-s-requires
 span_with-s-requires c = advancing_asks c.loop-i.invariant c.loop-i-test.true
 
-pub span_end-requires : goal.span_end-requires
-span_end-requires c = held_room c.loop-i.invariant.adding c.span_with-s.ensures
-
 pub overflow_add-days-in-loop-i : goal.overflow_add-days-in-loop-i
-overflow_add-days-in-loop-i c = omega (arith, advancing_day c.loop-i.invariant {j = c.earlier-stop.result} (omega (arith, c.earlier-stop.ensures, c.span_end.ensures, c.span_with-s.ensures.lasts, c.loop-i-test.true)) (omega (arith, c.earlier-stop.ensures)))
+unfolding span_in
+overflow_add-days-in-loop-i c = omega (arith, advancing_day c.loop-i.invariant {j = c.min-stop.result} (omega (arith, c.min-stop.ensures, c.span_with-s.ensures.lasts, c.loop-i-test.true)) (omega (arith, c.min-stop.ensures)))
 
 pub carried_before-up-requires : goal.carried_before-up-requires
-carried_before-up-requires c = (c.requires.cut.1, advancing_day c.loop-i.invariant (omega (arith, c.earlier-stop.ensures, c.span_end.ensures, c.span_with-s.ensures.lasts, c.loop-i-test.true)) (omega (arith, c.earlier-stop.ensures)))
+unfolding span_in
+carried_before-up-requires c = (c.requires.cut.1, advancing_day c.loop-i.invariant (omega (arith, c.min-stop.ensures, c.span_with-s.ensures.lasts, c.loop-i-test.true)) (omega (arith, c.min-stop.ensures)))
 
 pub overflow_sub-up : goal.overflow_sub-up
-overflow_sub-up c = advancing_grows c.loop-i.invariant c.span_with-s.ensures c.span_end.ensures c.earlier-stop.ensures c.loop-i-test.true c.carried_before-up.ensures
+unfolding span_in
+overflow_sub-up c = advancing_grows c.loop-i.invariant c.span_with-s.ensures c.min-stop.ensures c.loop-i-test.true c.carried_before-up.ensures
 
 pub add_litres-requires : goal.add_litres-requires
-add_litres-requires c = advancing_room c.loop-i.invariant c.span_with-s.ensures c.span_end.ensures c.earlier-stop.ensures c.loop-i-test.true c.carried_before-up.ensures c.requires.room
+unfolding span_in
+add_litres-requires c = advancing_room c.loop-i.invariant c.span_with-s.ensures c.min-stop.ensures c.loop-i-test.true c.carried_before-up.ensures c.requires.room
 
 pub loop-i-smaller : goal.loop-i-smaller
-loop-i-smaller c = omega (arith, c.earlier-stop.ensures, c.span_end.ensures, c.span_with-s.ensures.lasts, c.loop-i-test.true)
+unfolding span_in
+loop-i-smaller c = omega (arith, c.min-stop.ensures, c.span_with-s.ensures.lasts, c.loop-i-test.true)
 
 pub loop-i-preserved : goal.loop-i-preserved
-loop-i-preserved c = advancing_turn c.loop-i.invariant c.span_with-s.ensures c.span_end.ensures c.earlier-stop.ensures c.loop-i-test.true c.carried_before-up.ensures c.add_litres.ensures
+unfolding span_in
+loop-i-preserved c = advancing_turn c.loop-i.invariant c.span_with-s.ensures c.min-stop.ensures c.loop-i-test.true c.carried_before-up.ensures c.add_litres.ensures
 
 pub returns : goal.returns
 returns c =

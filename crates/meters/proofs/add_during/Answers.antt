@@ -3,11 +3,11 @@ use native.Mathlib.Omega.{arith}
 use Rattle.meters.proofs.Adding.{every_fits, figures_every, figures_ask, figures_put}
 use Rattle.meters.proofs.add_during.Goals as goal
 
-pub both-requires : goal.both-requires
-both-requires c = every_fits _ _ _ _ _ _ _ c.requires.cut c.entry-from.ensures c.entry-to.ensures (c.on_all_days.ensures.yes c.if-on_all_days.true) c.requires.room_with
+pub add-requires : goal.add-requires
+add-requires c = every_fits _ _ _ _ _ _ _ c.requires.cut c.entry-from.ensures c.entry-to.ensures (c.on_all_days.ensures.0 c.if-on_all_days.true) c.requires.room_with
 
 pub returns-then-on_all_days : goal.returns-then-on_all_days
-returns-then-on_all_days c = figures_every _ _ _ _ _ _ _ c.requires.cut c.entry-from.ensures c.entry-to.ensures (c.on_all_days.ensures.yes c.if-on_all_days.true) c.both.ensures
+returns-then-on_all_days c = figures_every _ _ _ _ _ _ _ c.requires.cut c.entry-from.ensures c.entry-to.ensures (c.on_all_days.ensures.0 c.if-on_all_days.true) c.add.ensures
 
 pub add_figures-requires : goal.add_figures-requires
 add_figures-requires c = record { cut = (c.requires.cut, omega (arith, c.entry-to.ensures)); room = figures_ask _ _ _ _ _ _ _ c.requires.cut c.entry-from.ensures c.entry-to.ensures c.requires.room_with }

@@ -1,5 +1,6 @@
 -- `meters::add_reads` meets its contract: what the spans have, and what the advances left will add, is what all of them have (`ReadsLeft`). Assumes
 -- nothing.
+use Prim.Native.Nat.{◌-◌, ◌<◌}
 use native.Mathlib.Omega.{arith}
 use Rattle.rules.specs.File.{read_at, after_read, reads as reads_of}
 use Rattle.records.proofs.Positions.{forward}
@@ -16,27 +17,27 @@ returns-then-head-eq0 c =
 pub read-first-requires : goal.read-first-requires
 read-first-requires c = let s = c.args in omega (arith, c.requires.at_bound, forward {next = λ at r. after_read at} (λ at r. omega arith) s.c.at (reads_of s.file.now s.head.reads s.c.at))
 
-pub dial_values-dial-requires : goal.dial_values-dial-requires
-dial_values-dial-requires c = let good = c.requires.good_meter.0.head in (good.digits_from, good.digits_to)
-
-pub loop-left-init : goal.loop-left-init
-loop-left-init c = (reads_begin _ _ _ _ _ _ (omega (arith, c.if-head-eq0.false)) c.read-first.ensures c.requires.good_meter.1 c.requires.good_meter.0 c.requires.room, c.requires.good_meter.1)
+pub loop-init : goal.loop-init
+loop-init c = (c.args.head.reads - 1, omega (arith, c.if-head-eq0.false), reads_begin _ _ _ _ _ _ (omega (arith, c.if-head-eq0.false)) c.read-first.ensures c.requires.good_meter.1 c.requires.good_meter.0 c.requires.room, c.requires.good_meter.1)
 
 pub read-taken-requires : goal.read-taken-requires
-read-taken-requires c = let s = c.args in omega (arith, c.requires.at_bound, ahead_within c.loop-left.invariant.0 (λ at r. omega arith), read_past (read_at s.file.now) (λ at r. after_read at) s.head.reads s.c.at (omega (arith, c.if-head-eq0.false)) c.read-first.ensures)
+read-taken-requires c = let s = c.args in omega (arith, c.requires.at_bound, ahead_within c.loop.invariant.2 (λ at r. omega arith), read_past (read_at s.file.now) (λ at r. after_read at) s.head.reads s.c.at (omega (arith, c.if-head-eq0.false)) c.read-first.ensures)
 
 pub advance_of-advance-requires : goal.advance_of-advance-requires
-advance_of-advance-requires c = ahead_one c.loop-left.invariant.0 c.loop-left-test.true c.read-taken.ensures (λ rs u. (u.sound, u.each.0, u.advances.0, c.dial_values-dial.ensures))
+advance_of-advance-requires c = ahead_one c.loop.invariant.2 (omega (arith, c.loop.invariant.1, c.loop-test.true)) c.read-taken.ensures (λ rs u. (u.sound, u.each.0, u.advances.0, c.dial_values-dial.ensures))
 
 pub spread_advance-s-requires : goal.spread_advance-s-requires
 spread_advance-s-requires c =
-    let all = ahead_one c.loop-left.invariant.0 c.loop-left-test.true c.read-taken.ensures (λ rs u. reads_ask c.advance_of-advance.ensures u c.loop-left.invariant.1) in
+    let all = ahead_one c.loop.invariant.2 (omega (arith, c.loop.invariant.1, c.loop-test.true)) c.read-taken.ensures (λ rs u. reads_ask c.advance_of-advance.ensures u c.loop.invariant.3) in
     record { cut = all.0; reached_2 = all.1.0; room = all.1.1 }
 
-pub loop-left-preserved : goal.loop-left-preserved
-loop-left-preserved c = (ahead_turn c.loop-left.invariant.0 c.loop-left-test.true c.read-taken.ensures (λ rs u. reads_turn c.advance_of-advance.ensures u c.spread_advance-s.ensures.added c.spread_advance-s.ensures.reached), c.loop-left.invariant.1)
+pub loop-preserved : goal.loop-preserved
+loop-preserved c =
+    let u = c.loop.invariant in
+    let h : 0 < u.0 = omega (arith, u.1, c.loop-test.true) in
+    (u.0 - 1, omega (arith, u.1, h), ahead_turn u.2 h c.read-taken.ensures (λ rs v. reads_turn c.advance_of-advance.ensures v c.spread_advance-s.ensures.added c.spread_advance-s.ensures.reached), u.3)
 
 pub returns : goal.returns
 returns c =
-    let both = reads_done _ _ _ _ _ _ (omega (arith, c.if-head-eq0.false)) c.read-first.ensures (omega arith) c.loop-left.invariant.0 in
+    let both = reads_done _ _ _ _ _ _ (omega (arith, c.if-head-eq0.false)) c.read-first.ensures (omega (arith, c.if-head-eq0.false, c.loop.invariant.1, c.loop-test.false)) c.loop.invariant.2 in
     record { ends = both.0; grown = both.1 }

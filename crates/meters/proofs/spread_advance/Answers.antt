@@ -7,9 +7,9 @@ pub overflow_mul-a : goal.overflow_mul-a
 overflow_mul-a c = omega (arith, amount_fits c.requires.cut.1)
 
 pub add_litres-requires : goal.add_litres-requires
-add_litres-requires c = whole_room _ _ _ _ c.requires.cut.0 c.requires.cut.1 c.requires.reached_2 (c.holds_all.ensures.yes c.if-holds_all.true) c.requires.room
+add_litres-requires c = whole_room _ _ _ _ c.requires.cut.0 c.requires.cut.1 c.requires.reached_2 (c.holds_all.ensures.0 c.if-holds_all.true) c.requires.room
 
 pub returns-then-holds_all : goal.returns-then-holds_all
 returns-then-holds_all c =
-    let both = whole_added _ _ _ _ c.requires.cut.0 c.requires.cut.1 c.requires.reached_2 (c.holds_all.ensures.yes c.if-holds_all.true) c.add_litres.ensures in
+    let both = whole_added _ _ _ _ c.requires.cut.0 c.requires.cut.1 c.requires.reached_2 (c.holds_all.ensures.0 c.if-holds_all.true) c.add_litres.ensures in
     record { added = both.0; reached = both.1 }

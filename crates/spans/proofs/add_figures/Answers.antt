@@ -1,5 +1,6 @@
 -- `spans::add_figures` meets its contract: what the days before entry i have is added to the spans up to s (`Adding`). Assumes nothing.
-use Rattle.spans.proofs.Days.{adding_none, adding_asks, held_room, adding_room, adding_more, adding_done, reached_first}
+use Rattle.spans.specs.Spans.{span_in}
+use Rattle.spans.proofs.Days.{adding_none, adding_asks, adding_room, adding_more, adding_done, reached_first}
 use Rattle.rules.proofs.Sums.{days_each}
 use native.Mathlib.Omega.{arith}
 use Rattle.spans.proofs.add_figures.Goals as goal
@@ -10,17 +11,21 @@ loop-i-init c = (adding_none c.requires.cut.0 _ _ (reached_first c.requires.cut.
 pub span_with-s-requires : goal.span_with-s-requires
 span_with-s-requires c = adding_asks c.loop-i.invariant.0 (omega (arith, c.loop-i-test.true, c.requires.cut.1))
 
-pub span_end-requires : goal.span_end-requires
-span_end-requires c = held_room c.loop-i.invariant.0 c.span_with-s.ensures
-
 pub overflow_sub-stop : goal.overflow_sub-stop
-overflow_sub-stop c = omega (arith, c.earlier-stop.ensures, c.span_end.ensures, c.span_with-s.ensures.lasts, c.loop-i-test.true)
+unfolding span_in
+overflow_sub-stop c = omega (arith, c.min-stop.ensures, c.span_with-s.ensures.lasts, c.loop-i-test.true)
 
 pub add_each-requires : goal.add_each-requires
-add_each-requires c = adding_room c.loop-i.invariant.0 c.span_with-s.ensures (omega (arith, c.earlier-stop.ensures, c.span_end.ensures, c.span_with-s.ensures.lasts, c.loop-i-test.true)) (omega (arith, c.earlier-stop.ensures, c.span_end.ensures)) c.requires.room (omega (arith, c.earlier-stop.ensures)) _ (λ q. days_each _ _ _)
+unfolding span_in
+add_each-requires c = adding_room c.loop-i.invariant.0 c.span_with-s.ensures (omega (arith, c.min-stop.ensures, c.span_with-s.ensures.lasts, c.loop-i-test.true)) (omega (arith, c.min-stop.ensures)) c.requires.room (omega (arith, c.min-stop.ensures)) _ (λ q. days_each _ _ _)
+
+pub loop-i-smaller : goal.loop-i-smaller
+unfolding span_in
+loop-i-smaller c = omega (arith, c.min-stop.ensures, c.span_with-s.ensures.lasts, c.loop-i-test.true)
 
 pub loop-i-preserved : goal.loop-i-preserved
-loop-i-preserved c = (adding_more c.loop-i.invariant.0 c.span_with-s.ensures (omega (arith, c.earlier-stop.ensures, c.span_end.ensures, c.span_with-s.ensures.lasts, c.loop-i-test.true)) (omega (arith, c.earlier-stop.ensures, c.span_end.ensures)) _ (λ q. days_each _ _ _) c.add_each.ensures, omega (arith, c.earlier-stop.ensures))
+unfolding span_in
+loop-i-preserved c = (adding_more c.loop-i.invariant.0 c.span_with-s.ensures (omega (arith, c.min-stop.ensures, c.span_with-s.ensures.lasts, c.loop-i-test.true)) (omega (arith, c.min-stop.ensures)) _ (λ q. days_each _ _ _) c.add_each.ensures, omega (arith, c.min-stop.ensures))
 
 pub returns : goal.returns
 returns c = adding_done c.loop-i.invariant.0 c.loop-i-test.false c.loop-i.invariant.1

@@ -1,11 +1,13 @@
--- `spans::add_litres` meets its contract: one number becomes more, and the others stay. Assumes nothing.
-use Rattle.spans.proofs.Numbers.{litres_added}
-use Rattle.spans.specs.Spans.{litres_sum}
+-- `spans::add_litres` meets its contract: one sum of the span becomes more. Assumes nothing.
 use native.Mathlib.Omega.{arith}
+use Rattle.spans.proofs.Written.{litres_added}
+use Rattle.spans.specs.Spans.{span_in, litres_sum}
 use Rattle.spans.proofs.add_litres.Goals as goal
 
-pub add_number-requires : goal.add_number-requires
-add_number-requires c = (omega arith, c.requires.within, c.requires.fits litres_sum)
+pub overflow_add-spans : goal.overflow_add-spans
+unfolding span_in
+overflow_add-spans c = omega (arith, c.requires.fits litres_sum)
 
 pub returns : goal.returns
-returns c = litres_added _ c.add_number.ensures
+unfolding span_in
+returns c = litres_added _ _ c.requires.within _

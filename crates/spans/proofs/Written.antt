@@ -1,0 +1,87 @@
+-- What is written to one span. Assumes nothing.
+use Prim.Native.Nat.{ℕ, ◌+◌, ◌*◌, ◌<◌}
+use mathlib.Core.Path.{◌≡◌, refl, ap, ◌∙◌}
+use mathlib.Core.Logic.{◌⊎◌, inl, inr}
+use mathlib.Core.List.{List}
+use native.Mathlib.Omega.{arith}
+use borrow.Author.Tests.{eq-eqb, ne_eqb}
+use lib.ListN.{length, set, length-set}
+use lib.Seq.{get_or-set_same, get_or-set_other}
+use lib.Dec.{eqb}
+use Rattle.rules.specs.Sums.{only}
+use Rattle.rules.proofs.Lists.{three}
+use Rattle.records.specs.declared.Groups.{Groups}
+use Rattle.spans.specs.declared.Figures.{Figures}
+use Rattle.spans.specs.declared.Span.{Span}
+use Rattle.spans.specs.Spans.{Sums, Times, clear_span, span_in, Sum, litres_sum, annual_sum, allowance_sum, threshold_sum, sum_of, sum_in, SpanSet, SumsAdded, litres_of, figure_of}
+
+module _ (spans : List Span) (s : ℕ) (span : Span) where
+  written_here : s < length spans → span_in (set spans s span) s ≡ span
+  unfolding span_in
+  written_here within = get_or-set_same spans s span _ within
+
+  written_else : (t : ℕ) → (t ≡ s → ⊥) → span_in (set spans s span) t ≡ span_in spans t
+  unfolding span_in
+  written_else t e = get_or-set_other spans s t span _ (λ q. e (omega arith))
+
+pub span_set : (spans : List Span) (s end provider : ℕ) (groups : Groups) → s < length spans → SpanSet spans (set spans s (clear_span end provider groups)) s end provider groups
+span_set spans s end provider groups within =
+    record {
+      long = length-set spans s (clear_span end provider groups);
+      here = written_here spans s (clear_span end provider groups) within;
+      others = written_else spans s (clear_span end provider groups);
+    }
+
+-- A SPAN WHOSE SUMS BECOME MORE, and of which all else stays
+module _ (spans : List Span) (s : ℕ) (span : Span) (x : Sum → ℕ) (within : s < length spans) (ends : span.end ≡ (span_in spans s).end)
+    (owner : span.provider ≡ (span_in spans s).provider) (groups : span.groups ≡ (span_in spans s).groups) (more : (q : Sum) → sum_of span q ≡ sum_in spans q s + x q) where
+  abbrev after : List Span
+  after = set spans s span
+
+  -- what is kept of this span is kept of all
+  all_kept : {A : Type 0} (of : Span → A) → of span ≡ of (span_in spans s) → (t : ℕ) → (t < s) ⊎ ((t ≡ s) ⊎ (s < t)) → of (span_in after t) ≡ of (span_in spans t)
+  all_kept of e t (inl l) = ap of (written_else spans s span t (omega arith))
+  all_kept of e t (inr (inl q)) = rw q (ap of (written_here spans s span within) ∙ e)
+  all_kept of e t (inr (inr g)) = ap of (written_else spans s span t (omega arith))
+
+  all_more : (q : Sum) (t : ℕ) → (t < s) ⊎ ((t ≡ s) ⊎ (s < t)) → sum_in after q t ≡ sum_in spans q t + only (eqb t s) (x q)
+  unfolding only
+  all_more q t (inl l) = simp (ne_eqb t s (omega arith)) (omega (arith, ap (λ v. sum_of v q) (written_else spans s span t (omega arith))))
+  all_more q t (inr (inl e)) = rw e (ap (λ v. sum_of v q) (written_here spans s span within) ∙ more q ∙ simp (eq-eqb s s refl))
+  all_more q t (inr (inr g)) = simp (ne_eqb t s (omega arith)) (omega (arith, ap (λ v. sum_of v q) (written_else spans s span t (omega arith))))
+
+  sums_added : SumsAdded spans after s x
+  sums_added =
+      record {
+        kept =
+            record {
+              long = length-set spans s span;
+              ends = λ t. all_kept (λ v. v.end) ends t (three t s);
+              owners = λ t. all_kept (λ v. v.provider) owner t (three t s);
+              groups = λ t. all_kept (λ v. v.groups) groups t (three t s);
+            };
+        sums = λ q t. all_more q t (three t s);
+      }
+
+module _ (spans : List Span) (s : ℕ) (within : s < length spans) where
+  abbrev old : Span
+  old = span_in spans s
+
+  pub litres_added : (x : ℕ) → SumsAdded spans (set spans s (record old { litres = old.litres + x })) s (litres_of x)
+  litres_added x = sums_added spans s (record old { litres = old.litres + x }) (litres_of x) within refl refl refl more
+    where
+      more : (q : Sum) → sum_of (record old { litres = old.litres + x }) q ≡ sum_of old q + litres_of x q
+      more litres_sum = refl
+      more annual_sum = omega arith
+      more allowance_sum = omega arith
+      more threshold_sum = omega arith
+
+  -- what some of its days have
+  pub figures_added : (days : ℕ) {each all sums : Figures} → Times each days all → Sums old.figures all sums → SumsAdded spans (set spans s (record old { figures = sums })) s (λ q. figure_of each q * days)
+  figures_added days {each} {all} {sums} t u = sums_added spans s (record old { figures = sums }) (λ q. figure_of each q * days) within refl refl refl more
+    where
+      more : (q : Sum) → sum_of (record old { figures = sums }) q ≡ sum_of old q + figure_of each q * days
+      more litres_sum = omega arith
+      more annual_sum = omega (arith, t.annual, u.annual)
+      more allowance_sum = omega (arith, t.allowance, u.allowance)
+      more threshold_sum = omega (arith, t.threshold, u.threshold)
