@@ -1,5 +1,3 @@
-pub mod Shift
-pub mod Halving
 pub mod Insert
 pub mod Runs
 pub mod Days

@@ -6,6 +6,7 @@ pub mod File
 pub mod Litres
 pub mod Charges
 pub mod Settlement
+pub mod Numbered
 pub mod Lawful
 pub mod Refusal
 pub mod Text
