@@ -5,10 +5,12 @@ use Rattle.rules.specs.declared.Read.{Read}
 use Rattle.rules.specs.declared.MeterHead.{MeterHead}
 use Rattle.rules.specs.Sums.{over}
 use Rattle.rules.specs.Lists.{All, Ascending}
-use Rattle.rules.specs.File.{Meter, bands, meters, after_bands, after_meters}
+use Rattle.rules.specs.File.{Meter, meters, after_bands, after_meters}
 use Rattle.rules.specs.Litres.{advance, carried_before, meter_litres}
 use Rattle.rules.specs.Charges.{band_for}
 use Rattle.rules.specs.Good.{GoodBand, GoodMeter}
+use Rattle.bands.specs.declared.Bands.{Bands}
+use Rattle.bands.specs.Bands.{SizesOf, bands_in}
 use Rattle.spans.specs.declared.Figures.{Figures}
 use Rattle.spans.specs.declared.Span.{Span}
 use Rattle.spans.specs.Spans.{end_in, begin_in, Sum, litres_sum, annual_sum, allowance_sum, threshold_sum, sum_in, Kept, figure_of, during, over_span}
@@ -100,9 +102,10 @@ pub record GoodMeters (file : List ℕ) (n at : ℕ) : Type 0 where
   pub sound : All GoodMeter (meters file n at)
   pub ends : after_meters at (meters file n at) < 2 ^ 32
 
--- and of the tariff's k bands
-pub record GoodBands (file : List ℕ) (k at : ℕ) : Type 0 where
-  pub some : 1 ≤ k
-  pub priced : All GoodBand (bands file k at)
-  pub rising : Ascending 0 (map (λ b. b.size) (bands file k at))
-  pub ends : after_bands at (bands file k at) < 2 ^ 32
+-- and of the tariff's bands
+pub record GoodBands (file : List ℕ) (bands : Bands) : Type 0 where
+  pub some : 1 ≤ bands.count
+  pub priced : All GoodBand (bands_in file bands)
+  pub rising : Ascending 0 (map (λ b. b.size) (bands_in file bands))
+  pub ends : after_bands bands.first.at (bands_in file bands) < 2 ^ 32
+  pub sizes : SizesOf file bands.count bands.first.at bands.sizes

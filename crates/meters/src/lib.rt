@@ -2,14 +2,14 @@
 // The meters of a supply point, added to its spans: the litres of their advances, and their bands' figures on their meter days. Each record of the
 // point's meters is read once.
 ghost use Rattle.std.specs.Prelude.{◌≡◌, ◌↔◌, IsTrue, ◌+◌, ◌-◌, ◌*◌, ◌≤◌, ◌<◌, ◌^◌, min, []};
-ghost use Rattle.rules.specs.File.{reads, bands as bands_from, meter_at, meters as meters_from, after_reads, after_meter, after_meters};
+ghost use Rattle.rules.specs.File.{reads, meter_at, meters as meters_from, after_reads, after_meter, after_meters};
 ghost use Rattle.rules.specs.Litres.{dial_values, advance, carried_before, meter_litres};
 ghost use Rattle.rules.specs.Good.{GoodMeterHead, GoodRead, GoodAdvance, GoodMeter};
-ghost use Rattle.bands.specs.Bands.{SizesOf};
+ghost use Rattle.bands.specs.Bands.{bands_in};
 ghost use Rattle.spans.specs.Spans.{end_in, Cut, Reached, litres_of, figure_of, during, Grown, Room};
 ghost use Rattle.meters.specs.Meters.{Spreadable, spread_of, meter_of, AdvanceOf, Weights, meter_figure, RoomWith, GrownWith, GoodBands, GoodMeters, SumsClear, MetersIn};
 
-use bands::band_for;
+use bands::Bands;
 use bits::Cursor;
 use charged::entry;
 use judges::dial_values;
@@ -161,13 +161,6 @@ fn on_all_days(days: SpanDays, from: usize, to: usize) -> bool
     from == 0 && to == days.count && 0 < to
 }
 
-// Where a tariff's bands begin, and how many there are.
-#[derive(Clone, Copy)]
-pub struct Bands {
-    pub first: Cursor,
-    pub count: u64,
-}
-
 // The cursor after some meters, and what every day has of them besides what stands in the spans' sums.
 #[derive(Clone, Copy)]
 pub struct MetersAdded {
@@ -200,49 +193,45 @@ fn add_during(
 fn add_meter<'a>(
     file: &'a [u8],
     c: Cursor,
-    bands: Bands,
-    sizes: &'a [u64],
+    bands: &'a Bands,
     spans: &mut [Span],
     days: SpanDays,
     every: Figures,
 ) -> MetersAdded
     requires at_bound { after_meter c.at (meter_at file.now c.at) < 2 ^ 32 }
-    requires good_bands { GoodBands file.now bands.count bands.first.at × SizesOf file.now bands.count bands.first.at sizes.now }
+    requires good_bands { GoodBands file.now bands.now }
     requires good_meter { GoodMeter (meter_at file.now c.at) × Cut spans.old days.count days.spans }
-    requires room_with { RoomWith every spans.old days.spans (λ q i. meter_figure (bands_from file.now bands.count bands.first.at) q (meter_at file.now c.at) (days.start + i)) }
+    requires room_with { RoomWith every spans.old days.spans (λ q i. meter_figure (bands_in file.now bands.now) q (meter_at file.now c.at) (days.start + i)) }
     ensures ends { result.next.at ≡ after_meter c.at (meter_at file.now c.at) }
-    ensures added { GrownWith every result.every spans.old spans.new days.spans (λ q i. meter_figure (bands_from file.now bands.count bands.first.at) q (meter_at file.now c.at) (days.start + i)) }
+    ensures added { GrownWith every result.every spans.old spans.new days.spans (λ q i. meter_figure (bands_in file.now bands.now) q (meter_at file.now c.at) (days.start + i)) }
 {
     let taken = records::meter(file, c);
     let head = taken.value;
-    let band = band_for(file, bands.first, bands.count, sizes, head.size);
+    let band = bands.serving(file, head.size);
     let each = figures_of(band, head.share);
     let next = add_reads(file, taken.next, head, spans, days);
     let more = add_during(spans, days, head, each, every);
     MetersAdded { next, every: more }
 }
 
-// What the days of each span have of the meters, where the sums were 0. Of the bands only the sizes are lent: each meter's own band is read from
-// the file. What the meters that are there on all days have together is handed back, and is not added to the spans.
+// What the days of each span have of the meters, where the sums were 0. What the meters that are there on all days have together is handed back, and is not added to the spans.
 pub fn add_meters<'a>(
     file: &'a [u8],
     c: Cursor,
     count: u64,
-    bands: Bands,
-    sizes: &'a [u64],
+    bands: &'a Bands,
     spans: &mut [Span],
     days: SpanDays,
 ) -> MetersAdded
-    requires good_meters { GoodMeters file.now count c.at × GoodBands file.now bands.count bands.first.at }
-    requires sizes_of { SizesOf file.now bands.count bands.first.at sizes.now }
+    requires good_meters { GoodMeters file.now count c.at × GoodBands file.now bands.now }
     requires cut { Cut spans.old days.count days.spans × SumsClear spans.old days.spans × (days.count ≤ 366) }
     ensures ends { result.next.at ≡ after_meters c.at (meters_from file.now count c.at) }
-    ensures sums { MetersIn result.every spans.old spans.new days.spans days.start (bands_from file.now bands.count bands.first.at) (meters_from file.now count c.at) }
+    ensures sums { MetersIn result.every spans.old spans.new days.spans days.start (bands_in file.now bands.now) (meters_from file.now count c.at) }
 {
     let mut every = Figures::NONE;
     let mut next = c;
     for _ in 0..count {
-        let added = add_meter(file, next, bands, sizes, spans, days, every);
+        let added = add_meter(file, next, bands, spans, days, every);
         every = added.every;
         next = added.next;
     }

@@ -1,9 +1,10 @@
 use Prim.Native.Nat.{ℕ, ◌+◌}
 use mathlib.Core.Path.{◌≡◌}
-use Rattle.rules.specs.File.{bands as bands_of, meter_at, after_meter, meters as meters_at, after_meters}
+use Rattle.rules.specs.File.{meter_at, after_meter, meters as meters_at, after_meters}
+use Rattle.bands.specs.Bands.{bands_in}
 use Rattle.records.proofs.Ahead.{Ahead}
 use Rattle.meters.proofs.Adding.{MetersLeft}
 use Rattle.meters.proofs.add_meters.Given as goal
 
 abbrev pub invariant-loop : goal.invariant-loop
-invariant-loop l = (left : ℕ) × (l.counter + left ≡ l.count) × Ahead (meter_at l.file) after_meter left l.next.at (after_meters l.initial.next.at (meters_at l.file l.count l.initial.next.at)) (MetersLeft l.every l.initial.spans l.spans l.days.count l.days.spans l.days.start (bands_of l.file l.bands.count l.bands.first.at) (meters_at l.file l.count l.initial.next.at))
+invariant-loop l = (left : ℕ) × (l.counter + left ≡ l.count) × Ahead (meter_at l.file) after_meter left l.next.at (after_meters l.initial.next.at (meters_at l.file l.count l.initial.next.at)) (MetersLeft l.every l.initial.spans l.spans l.days.count l.days.spans l.days.start (bands_in l.file l.bands) (meters_at l.file l.count l.initial.next.at))
