@@ -4,7 +4,6 @@
 ghost use Rattle.std.specs.Prelude.{◌≡◌, ◌-◌, ◌≤◌, min};
 ghost use Rattle.charged.specs.Charged.{ChargedOf};
 
-use exact::{greatest, least, past};
 use rules::{Day, Days};
 
 // So many days from one on. A point may have none.
@@ -21,10 +20,10 @@ pub fn charged_days(year: u64, connected: u64, disconnected: u64) -> Charged
 {
     let start = Day::first_of_year(year);
     let end = Day::first_of_year(year + 1);
-    let from = greatest(start.0, connected);
+    let from = start.0.max(connected);
     Charged {
         from: Day(from),
-        count: Days(past(least(end.0, disconnected), from)),
+        count: Days(end.0.min(disconnected).saturating_sub(from)),
     }
 }
 
@@ -32,6 +31,5 @@ pub fn charged_days(year: u64, connected: u64, disconnected: u64) -> Charged
 pub fn entry(count: usize, start: u64, day: u64) -> usize
     ensures { result ≡ min (day - start) count }
 {
-    let i = past(day, start);
-    if i < count as u64 { i as usize } else { count }
+    day.saturating_sub(start).min(count as u64) as usize
 }

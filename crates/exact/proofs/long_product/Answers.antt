@@ -7,15 +7,15 @@ use Rattle.exact.proofs.long_product.Goals as goal
 
 pub loop-k-init : goal.loop-k-init
 loop-k-init c =
-    (omega arith, record { small = c.requires.0; is = omega (arith, ap (λ z. z * c.args.b) (front_none c.args.a (omega arith))) })
+    record { small = c.requires.0; is = omega (arith, ap (λ z. z * c.args.b) (front_none c.args.a (omega arith))) }
 
-pub step-p-requires : goal.step-p-requires
-step-p-requires c =
+pub twice_plus-p-requires : goal.twice_plus-p-requires
+twice_plus-p-requires c =
     let a = c.args.a in
     let b = c.args.b in
     let d = c.args.d in
     let l = c.loop-k in
-    (l.invariant.1.small, mod-lt b c.requires.0, mod-lt _ (omega arith), front_fits a b l.k d (2 ^ 64) (value l.p d) (b / d * d + b % d) c.requires.1 c.loop-k-test.true l.invariant.1.is (div-add-mod' b d))
+    (l.invariant.small, mod-lt b c.requires.0, mod-lt _ (omega arith), front_fits a b l.k d (2 ^ 64) (value l.p d) (b / d * d + b % d) c.requires.1 c.loop-k-test.true l.invariant.is (div-add-mod' b d))
 
 pub loop-k-preserved : goal.loop-k-preserved
 loop-k-preserved c =
@@ -23,5 +23,5 @@ loop-k-preserved c =
     let b = c.args.b in
     let d = c.args.d in
     let l = c.loop-k in
-    let of = c.step-p.ensures in
-    (omega arith, record { small = of.small; is = of.is ∙ front_more a b l.k (value l.p d) (b / d * d + b % d) c.loop-k-test.true l.invariant.1.is (div-add-mod' b d) })
+    let of = c.twice_plus-p.ensures in
+    record { small = of.small; is = of.is ∙ front_more a b l.k (value l.p d) (b / d * d + b % d) c.loop-k-test.true l.invariant.is (div-add-mod' b d) }
