@@ -7,4 +7,4 @@ pub condition_groups-taken-requires : goal.condition_groups-taken-requires
 condition_groups-taken-requires c = conditions_small 0 0 c.requires
 
 pub returns : goal.returns
-returns c = (reading_none _ _ c.requires c.condition_groups-taken.ensures c.condition_day.ensures c.run_end-end.ensures, refl)
+returns c = (reading_none _ _ c.requires c.condition_groups-taken.ensures c.day.ensures c.run_end-end.ensures, refl)
