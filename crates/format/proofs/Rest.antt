@@ -9,6 +9,7 @@ use native.Mathlib.Omega.{arith}
 use native.Mathlib.Nat.{sub-zero}
 use lib.ListN.{length}
 use borrow.Author.Tests.{le-ltb}
+use Rattle.rules.specs.declared.Breach.{Breach}
 use Rattle.rules.specs.declared.Header.{Header}
 use Rattle.rules.specs.declared.Band.{Band}
 use Rattle.rules.specs.declared.PointHead.{PointHead}
@@ -16,6 +17,7 @@ use Rattle.rules.specs.declared.Transfer.{Transfer}
 use Rattle.rules.specs.declared.Condition.{Condition}
 use Rattle.rules.specs.declared.MeterHead.{MeterHead}
 use Rattle.rules.specs.declared.Read.{Read}
+use Rattle.rules.specs.Numbered.{number_of}
 use Rattle.rules.specs.Calendar.{no_day}
 use Rattle.rules.specs.File.{records, after, header_at, band_at, point_head_at, transfer_at, condition_at, meter_head_at, read_at, meter_at, point_at, decode, bands_at, after_band, transfers_from, after_transfer, after_condition, reads_from, after_read, after_meter, after_point}
 use Rattle.records.proofs.Positions.{length_records}
@@ -118,14 +120,17 @@ rest_number b (list kind n i s rest) at = list_number b kind (n - i) at s (rest_
 -- ---- numbers
 
 -- a record's number first, and then what comes after it
-pub first_stop : (n last : ℕ) → (n ≡ 0 → ⊥) → first_or (n ∷ []) last ≡ n
+pub positive : (breach : Breach) → 0 < number_of breach
+positive breach = grind arith
+
+pub first_stop : (n last : ℕ) → 0 < n → first_or (n ∷ []) last ≡ n
 unfolding first_or
-first_stop zero last h = absurd (h refl)
+first_stop zero last h = absurd (omega arith)
 first_stop (suc n) last h = refl
 
-pub first_go : (n last : ℕ) → n ≡ 0 → first_or (n ∷ []) last ≡ last
+pub first_go : (last : ℕ) → first_or (0 ∷ []) last ≡ last
 unfolding first_or
-first_go n last h = rw h
+first_go last = refl
 
 first_append : (xs ys : List ℕ) (last : ℕ) → first_or (xs ++ ys) last ≡ first_or xs (first_or ys last)
 unfolding first_or

@@ -1,7 +1,7 @@
--- `check` meets its contract. Each loop's invariant says that the refusal of the whole file is that of what is still to come; the measure is how
--- many records of the list are left. Assumes nothing.
-use mathlib.Core.Path.{sym, ◌∙◌}
+-- `check` meets its contract. Each loop's invariant says that the refusal of the whole file is that of what is still to come. Assumes nothing.
+use mathlib.Core.Path.{sym}
 use native.Mathlib.Omega.{arith}
+use Rattle.std.proofs.lemmas.Result.{err_from_is_err_and}
 use Rattle.rules.proofs.Judged.{meter_digits}
 use Rattle.format.proofs.Walk.{has_room, stops, goes_on, ends, too_long, header_stops, opens, file_ends}
 use Rattle.format.proofs.check.Goals as goal
@@ -9,98 +9,84 @@ use Rattle.format.proofs.check.Goals as goal
 pub returns-then-file-gt-MOST_BYTES : goal.returns-then-file-gt-MOST_BYTES
 returns-then-file-gt-MOST_BYTES c = too_long _ c.if-file-gt-MOST_BYTES.true
 
-pub returns-then-number-ne0 : goal.returns-then-number-ne0
-returns-then-number-ne0 c = header_stops _ c.if-file-gt-MOST_BYTES.false c.header-header.ensures c.header_number-number.ensures c.if-number-ne0.true
-
-pub file-init : goal.file-init
-file-init c = opens _ c.if-file-gt-MOST_BYTES.false c.header-header.ensures c.header_number-number.ensures c.if-number-ne0.false
+pub returns-in_err-header : goal.returns-in_err-header
+returns-in_err-header c = let p = err_from_is_err_and c.from_residual.result c.from_residual.ensures.1 in
+    rw (p.1, p.2) (header_stops _ c.if-file-gt-MOST_BYTES.false c.header-header.ensures _ c.in_err-header.ensures)
 
 pub bands-init : goal.bands-init
-bands-init c = c.file.invariant
+bands-init c = opens _ c.if-file-gt-MOST_BYTES.false c.header-header.ensures c.in_ok-header.ensures
 
 pub overflow_add-least : goal.overflow_add-least
-overflow_add-least c = omega (arith, has_room c.bands.invariant c.bands-test.true c.band-band.ensures c.band_number-number.ensures)
+overflow_add-least c = omega (arith, has_room c.bands.invariant c.bands-test.true c.band-band.ensures)
 
 pub bands-preserved : goal.bands-preserved
-bands-preserved c = goes_on c.bands.invariant c.bands-test.true c.band-band.ensures c.band_number-number.ensures c.if-number-ne0-2.false
+bands-preserved c = goes_on c.bands.invariant c.bands-test.true c.band-band.ensures c.in_default.ensures
 
 pub points-init : goal.points-init
 points-init c = ends c.bands.invariant c.bands-test.false
 
 pub overflow_add-lowest : goal.overflow_add-lowest
-overflow_add-lowest c = omega (arith, has_room c.points.invariant c.points-test.true c.point-point.ensures c.point_number-number.ensures)
+overflow_add-lowest c = omega (arith, has_room c.points.invariant c.points-test.true c.point-point.ensures)
 
 pub transfers-init : goal.transfers-init
-transfers-init c = goes_on c.points.invariant c.points-test.true c.point-point.ensures c.point_number-number.ensures c.if-number-ne0-3.false
+transfers-init c = goes_on c.points.invariant c.points-test.true c.point-point.ensures c.in_default-point.ensures
 
 pub overflow_add-from : goal.overflow_add-from
-overflow_add-from c = omega (arith, has_room c.transfers.invariant c.transfers-test.true c.transfer-transfer.ensures c.transfer_number-number.ensures)
+overflow_add-from c = omega (arith, has_room c.transfers.invariant c.transfers-test.true c.transfer-transfer.ensures)
 
 pub transfers-preserved : goal.transfers-preserved
-transfers-preserved c = goes_on c.transfers.invariant c.transfers-test.true c.transfer-transfer.ensures c.transfer_number-number.ensures c.if-number-ne0-4.false
+transfers-preserved c = goes_on c.transfers.invariant c.transfers-test.true c.transfer-transfer.ensures c.in_default-transfer.ensures
 
 pub conditions-init : goal.conditions-init
 conditions-init c = ends c.transfers.invariant c.transfers-test.false
 
 pub overflow_add-from-in-conditions : goal.overflow_add-from-in-conditions
-overflow_add-from-in-conditions c = omega (arith, has_room c.conditions.invariant c.conditions-test.true c.condition-condition.ensures c.condition_number-number.ensures)
+overflow_add-from-in-conditions c = omega (arith, has_room c.conditions.invariant c.conditions-test.true c.condition-condition.ensures)
 
 pub conditions-preserved : goal.conditions-preserved
-conditions-preserved c = goes_on c.conditions.invariant c.conditions-test.true c.condition-condition.ensures c.condition_number-number.ensures c.if-number-ne0-5.false
+conditions-preserved c = goes_on c.conditions.invariant c.conditions-test.true c.condition-condition.ensures c.in_default-condition.ensures
 
 pub meters-init : goal.meters-init
 meters-init c = ends c.conditions.invariant c.conditions-test.false
 
 pub dial_values-dial-requires : goal.dial_values-dial-requires
-dial_values-dial-requires c = let digits = meter_digits _ _ _ _ (sym c.meter_number-number.ensures ∙ c.if-number-ne0-6.false) in omega (arith, digits.0, digits.1)
+dial_values-dial-requires c = let digits = meter_digits _ _ _ _ (sym c.in_default-meter.ensures) in omega (arith, digits.0, digits.1)
 
 pub reads-init : goal.reads-init
-reads-init c = goes_on c.meters.invariant c.meters-test.true c.meter-meter.ensures c.meter_number-number.ensures c.if-number-ne0-6.false
-
-pub read_number-number-requires : goal.read_number-number-requires
-read_number-number-requires c = c.dial_values-dial.ensures
+reads-init c = goes_on c.meters.invariant c.meters-test.true c.meter-meter.ensures c.in_default-meter.ensures
 
 pub overflow_add-from-in-reads : goal.overflow_add-from-in-reads
-overflow_add-from-in-reads c = omega (arith, has_room c.reads.invariant c.reads-test.true c.read-read.ensures c.read_number-number.ensures)
+overflow_add-from-in-reads c = omega (arith, has_room c.reads.invariant c.reads-test.true c.read-read.ensures)
 
 pub overflow_add-until : goal.overflow_add-until
-overflow_add-until c = omega (arith, has_room c.reads.invariant c.reads-test.true c.read-read.ensures c.read_number-number.ensures)
-
-pub overflow_add-r : goal.overflow_add-r
-overflow_add-r c = omega (arith, c.meter-meter.type_inv, c.reads-test.true)
+overflow_add-until c = omega (arith, has_room c.reads.invariant c.reads-test.true c.read-read.ensures)
 
 pub reads-preserved : goal.reads-preserved
-reads-preserved c = goes_on c.reads.invariant c.reads-test.true c.read-read.ensures c.read_number-number.ensures c.if-number-ne0-7.false
-
-pub overflow_add-m : goal.overflow_add-m
-overflow_add-m c = omega (arith, c.point-point.type_inv, c.meters-test.true)
+reads-preserved c = goes_on c.reads.invariant c.reads-test.true c.read-read.ensures c.in_default-read.ensures
 
 pub meters-preserved : goal.meters-preserved
 meters-preserved c = ends c.reads.invariant c.reads-test.false
 
-pub overflow_add-p : goal.overflow_add-p
-overflow_add-p c = omega (arith, c.header-header.type_inv, c.points-test.true)
-
 pub points-preserved : goal.points-preserved
 points-preserved c = ends c.meters.invariant c.meters-test.false
 
-pub returns-then-number-ne0-2 : goal.returns-then-number-ne0-2
-returns-then-number-ne0-2 c = stops c.bands.invariant c.bands-test.true c.band-band.ensures c.band_number-number.ensures c.if-number-ne0-2.true
+pub returns-in-Err : goal.returns-in-Err
+returns-in-Err c = stops c.bands.invariant c.bands-test.true c.band-band.ensures c.in-Err.breach c.in-Err.ensures
 
-pub returns-then-number-ne0-3 : goal.returns-then-number-ne0-3
-returns-then-number-ne0-3 c = stops c.points.invariant c.points-test.true c.point-point.ensures c.point_number-number.ensures c.if-number-ne0-3.true
+pub returns-in-Err-point : goal.returns-in-Err-point
+returns-in-Err-point c = stops c.points.invariant c.points-test.true c.point-point.ensures c.in-Err-point.breach c.in-Err-point.ensures
 
-pub returns-then-number-ne0-4 : goal.returns-then-number-ne0-4
-returns-then-number-ne0-4 c = stops c.transfers.invariant c.transfers-test.true c.transfer-transfer.ensures c.transfer_number-number.ensures c.if-number-ne0-4.true
+pub returns-in-Err-transfer : goal.returns-in-Err-transfer
+returns-in-Err-transfer c = stops c.transfers.invariant c.transfers-test.true c.transfer-transfer.ensures c.in-Err-transfer.breach c.in-Err-transfer.ensures
 
-pub returns-then-number-ne0-5 : goal.returns-then-number-ne0-5
-returns-then-number-ne0-5 c = stops c.conditions.invariant c.conditions-test.true c.condition-condition.ensures c.condition_number-number.ensures c.if-number-ne0-5.true
+pub returns-in-Err-condition : goal.returns-in-Err-condition
+returns-in-Err-condition c = stops c.conditions.invariant c.conditions-test.true c.condition-condition.ensures c.in-Err-condition.breach c.in-Err-condition.ensures
 
-pub returns-then-number-ne0-6 : goal.returns-then-number-ne0-6
-returns-then-number-ne0-6 c = stops c.meters.invariant c.meters-test.true c.meter-meter.ensures c.meter_number-number.ensures c.if-number-ne0-6.true
+pub returns-in-Err-meter : goal.returns-in-Err-meter
+returns-in-Err-meter c = stops c.meters.invariant c.meters-test.true c.meter-meter.ensures c.in-Err-meter.breach c.in-Err-meter.ensures
 
-pub returns-then-number-ne0-7 : goal.returns-then-number-ne0-7
-returns-then-number-ne0-7 c = stops c.reads.invariant c.reads-test.true c.read-read.ensures c.read_number-number.ensures c.if-number-ne0-7.true
+pub returns-in-Err-read : goal.returns-in-Err-read
+returns-in-Err-read c = stops c.reads.invariant c.reads-test.true c.read-read.ensures c.in-Err-read.breach c.in-Err-read.ensures
 
 pub returns-after-points : goal.returns-after-points
-returns-after-points c = file_ends (ends c.points.invariant c.points-test.false) c.padding_number.ensures
+returns-after-points c = file_ends (ends c.points.invariant c.points-test.false) c.padding.ensures

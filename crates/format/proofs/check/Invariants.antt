@@ -1,46 +1,22 @@
-use Prim.Native.Nat.{◌-◌}
-use Rattle.format.proofs.Rest.{opened}
+-- What holds at the head of each loop of `check`. `counter` counts the innermost loop's records and `end` is how many it has; `counter-2` and
+-- `end-2` are those of the loop around it, and `counter-3` those of the loop around both.
 use Rattle.format.proofs.Walk.{At, bands_left, points_left, transfers_left, conditions_left, meters_left, reads_left}
 use Rattle.format.proofs.check.Given as goal
 
 abbrev pub invariant-bands : goal.invariant-bands
-invariant-bands l = At l.file l.c.at (bands_left l.head l.i l.least)
-
-abbrev pub decreases-bands : goal.decreases-bands
-decreases-bands l = l.head.bands - l.i
+invariant-bands l = At l.file l.c.at (bands_left l.head l.counter l.least)
 
 abbrev pub invariant-transfers : goal.invariant-transfers
-invariant-transfers l = At l.file l.c.at (transfers_left l.head l.p l.lowest l.point.value l.t l.from l.until)
-
-abbrev pub decreases-transfers : goal.decreases-transfers
-decreases-transfers l = l.point.value.transfers - l.t
+invariant-transfers l = At l.file l.c.at (transfers_left l.head l.counter-2 l.lowest l.point.value l.counter l.from l.until)
 
 abbrev pub invariant-conditions : goal.invariant-conditions
-invariant-conditions l = At l.file l.c.at (conditions_left l.head l.p l.lowest l.point.value l.k l.from)
-
-abbrev pub decreases-conditions : goal.decreases-conditions
-decreases-conditions l = l.point.value.conditions - l.k
+invariant-conditions l = At l.file l.c.at (conditions_left l.head l.counter-2 l.lowest l.point.value l.counter l.from)
 
 abbrev pub invariant-reads : goal.invariant-reads
-invariant-reads l = At l.file l.c.at (reads_left l.head l.p l.lowest l.point.value l.m l.meter.value l.r l.from l.until l.before)
-
-abbrev pub decreases-reads : goal.decreases-reads
-decreases-reads l = l.meter.value.reads - l.r
+invariant-reads l = At l.file l.c.at (reads_left l.head l.counter-3 l.lowest l.end-2 l.counter-2 l.meter.value l.counter l.from l.until l.before)
 
 abbrev pub invariant-meters : goal.invariant-meters
-invariant-meters l = At l.file l.c.at (meters_left l.head l.p l.lowest l.point.value l.m)
-
-abbrev pub decreases-meters : goal.decreases-meters
-decreases-meters l = l.point.value.meters - l.m
+invariant-meters l = At l.file l.c.at (meters_left l.head l.counter-2 l.lowest l.end l.counter)
 
 abbrev pub invariant-points : goal.invariant-points
-invariant-points l = At l.file l.c.at (points_left l.head l.p l.lowest)
-
-abbrev pub decreases-points : goal.decreases-points
-decreases-points l = l.head.points - l.p
-
-abbrev pub invariant-file : goal.invariant-file
-invariant-file l = At l.file l.c.at (opened l.head)
-
-abbrev pub decreases-file : goal.decreases-file
-decreases-file l = 0
+invariant-points l = At l.file l.c.at (points_left l.head l.counter l.lowest)
