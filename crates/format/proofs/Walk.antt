@@ -15,6 +15,7 @@ use Rattle.rules.specs.File.{header_at, bands_at}
 use Rattle.rules.specs.Refusal.{header_rule, band_rule, point_rule, transfer_rule, condition_rule, meter_rule, read_rule, padding_number, first_or, file_refusal}
 use Rattle.rules.proofs.Fields.{field_lt}
 use Rattle.rules.proofs.Judged.{lacks_none}
+use Rattle.judges.specs.declared.ReadLimits.{ReadLimits}
 use Rattle.format.proofs.Rest.{Kind, band_list, transfer_list, condition_list, read_list, meter_list, point_list, Head, State, head_at, past, rule, Rest, list, padding, onward, opened, rest_number, end, positive, first_stop, first_go, list_done, list_turn, file_turn, padding_turn}
 
 -- the refusal of the whole file is that of what is still to come, and the position is within the file
@@ -39,9 +40,9 @@ conditions_left h p lowest point k from = list (condition_list h.service) point.
 abbrev pub transfers_left : Header → ℕ → ℕ → PointHead → ℕ → ℕ → ℕ → Rest
 transfers_left h p lowest point t from until = list transfer_list point.transfers t (from, until) (conditions_left h p lowest point 0 0)
 
-abbrev pub reads_left : Header → ℕ → ℕ → ℕ → ℕ → MeterHead → ℕ → ℕ → ℕ → ℕ → Rest
-reads_left h p lowest meters m meter r from until before =
-    list (read_list meter) meter.reads r (from, (until, before)) (meters_left h p lowest meters (m + 1))
+abbrev pub reads_left : Header → ℕ → ℕ → ℕ → ℕ → MeterHead → ℕ → ReadLimits → Rest
+reads_left h p lowest meters m meter r limits =
+    list (read_list meter) meter.reads r (limits.least, (limits.latest, limits.before)) (meters_left h p lowest meters (m + 1))
 
 -- a record without a breach ends within the file
 fits : (b : List ℕ) (kind : Kind) (next : ℕ) (s : State kind) (v : Head kind) → rule b kind next s v ≡ 0 → next ≤ end b

@@ -5,6 +5,7 @@ ghost use Rattle.rules.specs.Numbered.{refusal_of};
 ghost use Rattle.rules.specs.Refusal.{padding_number, file_refusal};
 
 use bits::Cursor;
+use judges::ReadLimits;
 use rules::{Breach, Day};
 
 // The most bytes of a file.
@@ -30,8 +31,8 @@ fn padding(file: &[u8], c: Cursor) -> Result<(), Breach>
     Ok(())
 }
 
-// What a file is refused for, by its first breach in file order. `least` and `lowest` are the least size and number allowed
-// next, `from` and `until` the days that the next record of a list may have, and `before` is the value of the read before.
+// What a file is refused for: its first breach in file order. `least`, `lowest` and `earliest` are the least size, number and day allowed next,
+// `from` and `until` the days that the next transfer may have.
 pub fn check(file: &[u8]) -> Result<(), Breach>
     ensures { refusal_of result ≡ file_refusal file.now }
 {
@@ -78,20 +79,20 @@ pub fn check(file: &[u8]) -> Result<(), Breach>
                 from = transfer.value.day + 1;
                 until = Day::NONE.0;
             }
-            from = 0;
+            let mut earliest: u64 = 0;
             'conditions: for _ in 0..point.value.conditions {
                 let condition = records::condition(file, c);
                 if let Err(breach) = judges::condition(
                     end,
                     condition.next.at,
                     head.service,
-                    from,
+                    earliest,
                     condition.value,
                 ) {
                     break 'file Err(breach);
                 }
                 c = condition.next;
-                from = condition.value.day + 1;
+                earliest = condition.value.day + 1;
             }
             'meters: for _ in 0..point.value.meters {
                 let meter = records::meter(file, c);
@@ -100,9 +101,11 @@ pub fn check(file: &[u8]) -> Result<(), Breach>
                 }
                 c = meter.next;
                 let dial = judges::dial_values(meter.value.digits);
-                from = 0;
-                until = Day::NONE.0;
-                let mut before: u64 = 0;
+                let mut limits = ReadLimits {
+                    least: 0,
+                    latest: Day::NONE.0,
+                    before: 0,
+                };
                 'reads: for _ in 0..meter.value.reads {
                     let read = records::read(file, c);
                     if let Err(breach) = judges::read(
@@ -110,17 +113,17 @@ pub fn check(file: &[u8]) -> Result<(), Breach>
                         read.next.at,
                         meter.value,
                         dial,
-                        from,
-                        until,
-                        before,
+                        limits,
                         read.value,
                     ) {
                         break 'file Err(breach);
                     }
                     c = read.next;
-                    from = read.value.day + 1;
-                    until = read.value.day + MOST_DAYS;
-                    before = read.value.value;
+                    limits = ReadLimits {
+                        least: read.value.day + 1,
+                        latest: read.value.day + MOST_DAYS,
+                        before: read.value.value,
+                    };
                 }
             }
         }

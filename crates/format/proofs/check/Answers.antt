@@ -40,8 +40,8 @@ transfers-preserved c = goes_on c.transfers.invariant c.transfers-test.true c.tr
 pub conditions-init : goal.conditions-init
 conditions-init c = ends c.transfers.invariant c.transfers-test.false
 
-pub overflow_add-from-in-conditions : goal.overflow_add-from-in-conditions
-overflow_add-from-in-conditions c = omega (arith, has_room c.conditions.invariant c.conditions-test.true c.condition-condition.ensures)
+pub overflow_add-earliest : goal.overflow_add-earliest
+overflow_add-earliest c = omega (arith, has_room c.conditions.invariant c.conditions-test.true c.condition-condition.ensures)
 
 pub conditions-preserved : goal.conditions-preserved
 conditions-preserved c = goes_on c.conditions.invariant c.conditions-test.true c.condition-condition.ensures c.in_default-condition.ensures
@@ -55,11 +55,11 @@ dial_values-dial-requires c = let digits = meter_digits _ _ _ _ (sym c.in_defaul
 pub reads-init : goal.reads-init
 reads-init c = goes_on c.meters.invariant c.meters-test.true c.meter-meter.ensures c.in_default-meter.ensures
 
-pub overflow_add-from-in-reads : goal.overflow_add-from-in-reads
-overflow_add-from-in-reads c = omega (arith, has_room c.reads.invariant c.reads-test.true c.read-read.ensures)
+pub overflow_add-limits : goal.overflow_add-limits
+overflow_add-limits c = omega (arith, has_room c.reads.invariant c.reads-test.true c.read-read.ensures)
 
-pub overflow_add-until : goal.overflow_add-until
-overflow_add-until c = omega (arith, has_room c.reads.invariant c.reads-test.true c.read-read.ensures)
+pub overflow_add-limits-in-reads : goal.overflow_add-limits-in-reads
+overflow_add-limits-in-reads c = omega (arith, has_room c.reads.invariant c.reads-test.true c.read-read.ensures)
 
 pub reads-preserved : goal.reads-preserved
 reads-preserved c = goes_on c.reads.invariant c.reads-test.true c.read-read.ensures c.in_default-read.ensures

@@ -10,10 +10,10 @@ abbrev pub invariant-transfers : goal.invariant-transfers
 invariant-transfers l = At l.file l.c.at (transfers_left l.head l.counter-2 l.lowest l.point.value l.counter l.from l.until)
 
 abbrev pub invariant-conditions : goal.invariant-conditions
-invariant-conditions l = At l.file l.c.at (conditions_left l.head l.counter-2 l.lowest l.point.value l.counter l.from)
+invariant-conditions l = At l.file l.c.at (conditions_left l.head l.counter-2 l.lowest l.point.value l.counter l.earliest)
 
 abbrev pub invariant-reads : goal.invariant-reads
-invariant-reads l = At l.file l.c.at (reads_left l.head l.counter-3 l.lowest l.end-2 l.counter-2 l.meter.value l.counter l.from l.until l.before)
+invariant-reads l = At l.file l.c.at (reads_left l.head l.counter-3 l.lowest l.end-2 l.counter-2 l.meter.value l.counter l.limits)
 
 abbrev pub invariant-meters : goal.invariant-meters
 invariant-meters l = At l.file l.c.at (meters_left l.head l.counter-2 l.lowest l.end l.counter)
