@@ -81,7 +81,7 @@ impl Dated for Groups {
     }
 
     fn day(&self) -> u64 {
-        records::condition_day(*self)
+        Groups::day(*self)
     }
 }
 
@@ -150,7 +150,7 @@ fn no_condition(file: &[u8], c: Cursor, count: u64, start: u64, n: usize) -> InF
     ensures { Held file.now start n (condition_in file.now count c.at start) 0 result × (result.left ≡ count) }
 {
     let taken = records::condition_groups(file, c);
-    let end = run_end(count, n, start, records::condition_day(taken.value));
+    let end = run_end(count, n, start, taken.value.day());
     let groups = Groups {
         state: 0,
         rateable: 0,
