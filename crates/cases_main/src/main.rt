@@ -4,7 +4,7 @@
 // that is refused. A line `report` has the answer and how many of the bytes lent are past it and as they were found; then the report, where one
 // was written. At most 80 entries and 65,536 bytes are lent, whatever the batch asks.
 use batch::Case;
-use rules::{Centipence, Days, Litres, Row};
+use rules::{Centipence, Days, Litres, Row, Statement};
 use std::io::Write;
 use std::{array, fmt, io};
 
@@ -55,10 +55,12 @@ fn kept_from<T: PartialEq + Drop, F: Fn(usize) -> T>(lent: &[T], from: usize, fo
 fn print_rows<W: Write>(out: &mut W, case: Case) -> io::Result<()> {
     let mut table: [Row; ENTRIES] = array::from_fn(row_found);
     let lent = &mut table[..case.entries.min(ENTRIES)];
-    let answer = unit::rows(case.file, lent);
-    let count = answer.count;
+    let (number, count) = match unit::rows(case.file, lent) {
+        Ok(count) => (0, count),
+        Err(breach) => (breach.number(), 0),
+    };
     let kept = kept_from(lent, count, row_found);
-    writeln!(out, "rows {} {count} {kept}", answer.number)?;
+    writeln!(out, "rows {number} {count} {kept}")?;
     for row in lent.iter().take(count) {
         writeln!(
             out,
@@ -72,38 +74,50 @@ fn print_rows<W: Write>(out: &mut W, case: Case) -> io::Result<()> {
     Ok(())
 }
 
+fn print_statement<W: Write>(out: &mut W, place: u64, number: u64, s: Statement) -> io::Result<()> {
+    writeln!(
+        out,
+        "statement {place} {number} {} {} {} {} {} {}",
+        s.days.0,
+        s.litres.0,
+        s.disconnected.0,
+        s.volume.0,
+        s.year_cost.0,
+        Charges(s.charges)
+    )
+}
+
+// What is printed beside a refusal.
+const NO_STATEMENT: Statement = Statement {
+    days: Days(0),
+    litres: Litres(0),
+    disconnected: Litres(0),
+    volume: Litres(0),
+    year_cost: Centipence(0),
+    charges: [Centipence(0), Centipence(0), Centipence(0), Centipence(0)],
+};
+
 // No file has more than 64 points, so that the 65th place is refused.
 fn print_statements<W: Write>(out: &mut W, case: Case) -> io::Result<()> {
     for place in 0..65 {
-        let answer = unit::statement(case.file, place);
-        let number = answer.number;
-        let s = answer.statement;
-        writeln!(
-            out,
-            "statement {place} {number} {} {} {} {} {} {}",
-            s.days.0,
-            s.litres.0,
-            s.disconnected.0,
-            s.volume.0,
-            s.year_cost.0,
-            Charges(s.charges)
-        )?;
-        if number != 0 {
-            break;
+        match unit::statement(case.file, place) {
+            Ok(statement) => print_statement(out, place, 0, statement)?,
+            Err(breach) => return print_statement(out, place, breach.number(), NO_STATEMENT),
         }
     }
     Ok(())
 }
 
-// No report is under 52 bytes, and no refusal's number over 14.
 fn print_report<W: Write>(out: &mut W, case: Case) -> io::Result<()> {
     let mut space = [0u8; BYTES];
     let lent = &mut space[..case.bytes.min(BYTES)];
     for (place, byte) in lent.iter_mut().enumerate() {
         *byte = byte_found(place);
     }
-    let answer = unit::settlement_report(case.file, lent);
-    let end = if answer < 52 { 0 } else { answer as usize };
+    let (answer, end) = match unit::settlement_report(case.file, lent) {
+        Ok(length) => (length as u64, length),
+        Err(breach) => (breach.number(), 0),
+    };
     let kept = kept_from(lent, end, byte_found);
     writeln!(out, "report {answer} {kept}")?;
     out.write_all(&lent[..end])

@@ -7,7 +7,10 @@ fn main(rt: HostRuntime) -> io::Result<()> {
     let mut input = rt.stdin();
     let mut out = rt.stdout();
     batch::for_each_case(&mut input, |_, case| {
-        let number = format::check(case.file);
+        let number = match format::check(case.file) {
+            Ok(()) => 0,
+            Err(breach) => breach.number(),
+        };
         writeln!(out, "{number}")
     })
 }

@@ -6,15 +6,12 @@ ghost use Rattle.std.specs.Prelude.{◌≤◌, length};
 use std::io;
 use std::io::Write;
 
-// No report is under 52 bytes, and no refusal's number over 14.
 fn print_report<W: Write>(out: &mut W, file: &[u8], space: &mut [u8]) -> io::Result<()>
     requires { 32 ≤ length space.old }
 {
-    let answer = unit::settlement_report(file, space);
-    let end = if answer < 52 {
-        report::write_refusal(space, answer)
-    } else {
-        answer as usize
+    let end = match unit::settlement_report(file, space) {
+        Ok(length) => length,
+        Err(breach) => report::write_refusal(space, breach.number()),
     };
     out.write_all(&space[..end])
 }

@@ -2,16 +2,18 @@
 use Prim.Native.Nat.{ℕ, zero, suc, ◌≤◌}
 use native.Mathlib.Omega.{arith}
 use mathlib.Core.Path.{◌≡◌, refl, sym, ap, ap₂, ◌∙◌, subst}
-use mathlib.Core.List.{List, ◌++◌, append-nil}
-use lib.ListN.{length, take, replicate, length-replicate}
+use mathlib.Core.List.{List, [], ◌∷◌, ◌++◌, append-nil}
+use Prim.{tt}
+use Rattle.std.specs.Prelude.{Result, Ok, Err, IfOk}
+use lib.ListN.{length, length-append, take, drop, replicate, length-replicate}
 use lib.Seq.{length-take-le}
 use Rattle.std.proofs.lemmas.List.{drop_all}
 use Rattle.rules.specs.declared.Header.{Header}
 use Rattle.rules.specs.declared.Breach.{Breach}
-use Rattle.rules.specs.Numbered.{number_of}
+use Rattle.rules.specs.Numbered.{number_of, refusal_of, one_number}
 use Rattle.rules.specs.declared.Row.{Row}
 use Rattle.rules.specs.File.{header_at, decode}
-use Rattle.rules.specs.Refusal.{refusal}
+use Rattle.rules.specs.Refusal.{first_or, refusal}
 use Rattle.rules.specs.Settlement.{rows, row_and, clear_row, providers_of}
 use Rattle.rules.specs.Report.{report_of, report}
 use Rattle.rules.specs.Services.{written, report_number, report_answer, report_after}
@@ -46,6 +48,17 @@ module _ (b : List ℕ) where
         unwritten : (n : ℕ) → (n ≡ 0 → ⊥) → written n (report (decode b)) space ≡ space
         unwritten zero h = absurd (h refl)
         unwritten (suc n) h = refl
+
+  -- a length is within the space
+  pub within : (r : Result ℕ Breach) (space exit : List ℕ) → one_number r ≡ report_answer b (length space) → refusal_of r ≡ report_number b (length space) → exit ≡ report_after b space →
+      IfOk r (λ n. n ≤ length exit)
+  unfolding report_answer report_after first_or written
+  within (Ok n) space exit a r x = go (report_number b (length space)) r a x
+    where
+      go : (m : ℕ) → 0 ≡ m → n ≡ first_or (m ∷ []) (length (report (decode b))) → exit ≡ written m (report (decode b)) space → n ≤ length exit
+      go zero z a x = omega (arith, a, ap length x, length-append (report (decode b)) (drop (length (report (decode b))) space))
+      go (suc m) z a x = absurd (omega arith)
+  within (Err breach) space exit a r x = tt
 
   -- an accepted file's report, by its rows: a table of as many entries becomes them alone
   module _ (lent : List Row) (e : refusal b ≡ 0) {t : List Row} (w : t ≡ written 0 (rows (decode b)) lent) (long : length (rows (decode b)) ≡ length lent) where
