@@ -1,51 +1,50 @@
 -- Breach 13 after breaches 1 to 12, and the list of providers that the judge hands on. Assumes nothing.
-use Prim.Native.Nat.{ℕ, zero, suc, ◌≤◌, ◌<◌}
-use mathlib.Core.Bool.{true, false}
-use mathlib.Core.Path.{◌≡◌, refl, ap, sym, ◌∙◌}
+use Prim.Native.Nat.{ℕ, zero, suc, ◌≤◌}
+use mathlib.Core.Bool.{Bool, true, false}
+use Prim.{tt}
+use mathlib.Core.Path.{◌≡◌, refl, ap, sym, subst, ◌∙◌}
 use mathlib.Core.List.{List}
 use native.Mathlib.Omega.{arith}
-use lib.ListN.{length, take}
-use lib.Seq.{length-take-le}
-use borrow.Author.Tests.{lt-ltb, le-ltb}
+use Rattle.std.specs.Prelude.{Result, Ok, Err, IfOk}
+use lib.ListN.{length}
+use lib.Dec.{ltb}
+use borrow.Author.Tests.{ltb-false}
+use Rattle.rules.specs.declared.Breach.{Breach}
 use Rattle.rules.specs.File.{decode}
-use Rattle.rules.specs.Refusal.{first_or, file_refusal, refusal}
+use Rattle.rules.specs.Numbered.{refusal_of}
+use Rattle.rules.specs.Refusal.{when, first_or, file_refusal, refusal}
 use Rattle.rules.specs.Settlement.{providers_of}
-use Rattle.providers.specs.declared.Listed.{Listed}
-use Rattle.providers.specs.Listed.{InArray, Stands}
 use Rattle.figures.specs.Figures.{ProvidersOf}
-use Rattle.unit.specs.declared.Judged.{Judged}
-use Rattle.unit.specs.Judged.{JudgedBy}
 
 module _ (b : List ℕ) where
   abbrev all : List ℕ
   all = providers_of (decode b).tariff (decode b).points
 
   -- a breach of 1 to 12 comes first
-  first_breach : (n : ℕ) → file_refusal b ≡ n → (n ≡ 0 → ⊥) → n ≡ refusal b
+  pub first_breach : (n : ℕ) → n ≡ file_refusal b → (n ≡ 0 → ⊥) → n ≡ refusal b
   unfolding refusal first_or
   first_breach zero e h = absurd (h refl)
-  first_breach (suc n) e h = sym (rw (e, first_or))
+  first_breach (suc n) e h = sym (rw (sym e, first_or))
 
-  pub refused_judged : {n : ℕ} {l : Listed} → n ≡ file_refusal b → (n ≡ 0 → ⊥) → InArray l → JudgedBy b (record { number = n; providers = l })
-  refused_judged {n} e h a =
-      let is = first_breach n (sym e) h in
-      record { number = is; array = a; providers = λ z. absurd (h (is ∙ z)) }
+  -- where there is none, 13 comes next
+  pub then_many : {n : ℕ} → 0 ≡ file_refusal b → n ≡ when (ltb 64 (length all)) 13 0 → n ≡ refusal b
+  unfolding refusal first_or
+  then_many e h = h ∙ sym (rw (sym e, first_or))
 
-  module _ {l : Listed} (e : 0 ≡ file_refusal b) (s : InArray l × Stands l all) where
-    pub over_judged : l.over ≡ true → JudgedBy b (record { number = 13; providers = l })
-    unfolding refusal first_or
-    over_judged o =
-        let many : 64 < length all = rw o at s.1 in
-        let is : 13 ≡ refusal b = sym (rw (sym e, first_or, lt-ltb 64 (length all) many)) in
-        record { number = is; array = s.0; providers = λ z. absurd (omega (arith, is, z)) }
+  -- the list of an accepted file is its providers
+  pub few_listed : {list : List ℕ} → list ≡ all → 0 ≡ when (ltb 64 (length all)) 13 0 → ProvidersOf b list
+  few_listed {list} is none = record { few = omega (arith, ap length is, few (ltb 64 (length all)) refl none); is = is }
+    where
+      few : (t : Bool) → ltb 64 (length all) ≡ t → 0 ≡ when t 13 0 → length all ≤ 64
+      few true e h = absurd (omega arith)
+      few false e h = ltb-false 64 (length all) e
 
-    pub accepted_judged : l.over ≡ false → JudgedBy b (record { number = 0; providers = l })
-    unfolding refusal first_or
-    accepted_judged o =
-        let list : take l.count l.list ≡ all = rw o at s.1 in
-        let few : length all ≤ 64 = omega (arith, ap length list, length-take-le l.count l.list (omega (arith, s.0.few, s.0.long)), s.0.few) in
-        record { number = sym (rw (sym e, first_or, le-ltb 64 (length all) few)); array = s.0; providers = λ z. list }
+  -- the judge's answer, by what it calls
+  pub judged : {A : Type 0} (items : A → List ℕ) (r : Result A Breach) → 0 ≡ file_refusal b → refusal_of r ≡ when (ltb 64 (length all)) 13 0 → IfOk r (λ list. items list ≡ all) →
+      (refusal_of r ≡ refusal b) × IfOk r (λ list. ProvidersOf b (items list))
+  judged items (Ok list) e n is = (then_many e n, few_listed is n)
+  judged items (Err breach) e n is = (then_many e n, tt)
 
-  -- the judge's list is the file's providers
-  pub judged_providers : {j : Judged} → JudgedBy b j → refusal b ≡ 0 → ProvidersOf b j.providers.list j.providers.count
-  judged_providers j e = record { few = j.array.few; long = j.array.long; is = j.providers e }
+  -- the same providers, lent
+  pub lent : {items list : List ℕ} → ProvidersOf b items → list ≡ items → ProvidersOf b list
+  lent of is = subst (ProvidersOf b) (sym is) of

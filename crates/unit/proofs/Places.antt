@@ -6,10 +6,11 @@ use native.Mathlib.Omega.{arith}
 use lib.ListN.{length}
 use Rattle.rules.specs.declared.Header.{Header}
 use Rattle.rules.specs.declared.Statement.{Statement}
-use Rattle.rules.specs.Services.{StatementAnswer}
+use Rattle.rules.specs.declared.Breach.TheVariants.{NoSuchPoint}
+use Rattle.std.specs.Prelude.{Ok, Err}
 use Rattle.rules.specs.File.{Supply, Point, Tariff, header_at, bands_at, point_at, points, after_point, decode}
 use Rattle.rules.specs.Settlement.{statement}
-use Rattle.rules.specs.Services.{zero_statement, statement_at}
+use Rattle.rules.specs.Services.{zero_statement, StatementAnswer, statement_told, statement_at}
 use Rattle.rules.specs.Good.{Good}
 use Rattle.records.proofs.Positions.{length_records}
 use Rattle.records.proofs.Walk.{PointsLeft, points_one, points_next, points_start, file_points, point_here, point_ends}
@@ -44,10 +45,8 @@ module _ (b : List ℕ) (g : Good b) {head : Header} {first : ℕ} (e : (head �
   abbrev answer : StatementAnswer
   answer = statement_at (decode b).tariff (supplies (decode b).points) place
 
-  pub past_last : {s : Statement} → s ≡ zero_statement → head.points ≤ place → ◌≡◌ {A = StatementAnswer} (record { number = 15; statement = s }) answer
-  past_last z h =
-      ap (λ (s : Statement). record { number = 15; statement = s }) z
-      ∙ sym (no_point (decode b).tariff (decode b).points place (omega (arith, ap length (file_points b g e), length_records (point_at b) after_point head.points (first + head.bands * 90))))
+  pub past_last : head.points ≤ place → statement_told (Err NoSuchPoint) ≡ answer
+  past_last h = sym (no_point (decode b).tariff (decode b).points place (omega (arith, ap length (file_points b g e), length_records (point_at b) after_point head.points (first + head.bands * 90))))
 
   pub place_start : AtPlace b head place 0 (first + head.bands * 90)
   place_start =
@@ -87,7 +86,7 @@ module _ (b : List ℕ) (g : Good b) {head : Header} {first : ℕ} (e : (head �
               ∙ (sym (split (suc (place - (i + 1)))) ∙ (ap (statement_at tariff (supplies (points b (head.points - i) at))) (sym one) ∙ p.is)));
         }
 
-    pub place_found : {s : Statement} → place ≤ i → s ≡ statement (decode b).tariff (point_at b at).supply → ◌≡◌ {A = StatementAnswer} (record { number = 0; statement = s }) answer
+    pub place_found : {s : Statement} → place ≤ i → s ≡ statement (decode b).tariff (point_at b at).supply → statement_told (Ok s) ≡ answer
     place_found l z =
         ap (λ (s : Statement). record { number = 0; statement = s }) z
         ∙ (sym (at_first (decode b).tariff (point_at b at).supply _ (place - i) (omega arith)) ∙ (sym (split (place - i)) ∙ p.is))

@@ -1,13 +1,16 @@
 -- `unit::judge` meets its contract. Assumes nothing.
-use mathlib.Core.Path.{sym, ◌∙◌}
-use Rattle.unit.proofs.Breach13.{refused_judged, over_judged, accepted_judged}
+use Prim.{tt}
+use Rattle.std.proofs.lemmas.Result.{err_from_is_err_and}
+use Rattle.unit.proofs.Breach13.{first_breach, judged}
+use Rattle.unit.proofs.Refused.{some_number}
 use Rattle.unit.proofs.judge.Goals as goal
 
-pub returns-then-number-ne0 : goal.returns-then-number-ne0
-returns-then-number-ne0 c = refused_judged _ c.check-number.ensures c.if-number-ne0.true c.none-providers.ensures.0
-
-pub returns-then-providers : goal.returns-then-providers
-returns-then-providers c = over_judged _ (sym c.if-number-ne0.false ∙ c.check-number.ensures) c.provider_list-providers.ensures c.if-providers.true
+pub returns-in_err-check : goal.returns-in_err-check
+returns-in_err-check c =
+    let p = err_from_is_err_and c.from_residual.result c.from_residual.ensures.1 in
+    rw (p.1, p.2) (record { number = first_breach c.args.file.now _ c.in_err-check.ensures (some_number _); list = tt })
 
 pub returns : goal.returns
-returns c = accepted_judged _ (sym c.if-number-ne0.false ∙ c.check-number.ensures) c.provider_list-providers.ensures c.if-providers.false
+returns c =
+    let j = judged c.args.file.now (λ list. list.items) c.provider_list.result c.in_ok-check.ensures c.provider_list.ensures.number c.provider_list.ensures.list in
+    record { number = j.0; list = j.1 }

@@ -1,15 +1,17 @@
 -- `unit::statement` meets its contract, whatever the bytes are. Assumes nothing.
-use Prim.Native.Nat.{ℕ}
-use mathlib.Core.Path.{refl, sym, ap₂, ◌∙◌}
-use Rattle.rules.specs.declared.Statement.{Statement}
+use mathlib.Core.Path.{sym, ◌∙◌}
+use Rattle.std.proofs.lemmas.Result.{err_from_is_err_and}
 use Rattle.rules.proofs.Kept.{answered, refused, accepted_file}
+use Rattle.unit.proofs.Refused.{some_number}
 use Rattle.unit.proofs.statement.Goals as goal
 
-pub returns-then-breach-ne0 : goal.returns-then-breach-ne0
-returns-then-breach-ne0 c = (ap₂ (λ (n : ℕ) (s : Statement). record { number = n; statement = s }) refl c.zero_statement-statement.ensures) ∙ sym (refused c.args.file.now c.args.place _ (sym c.judge-judged.ensures.number) c.if-breach-ne0.true)
+pub returns-in_err-judge : goal.returns-in_err-judge
+returns-in_err-judge c =
+    let p = err_from_is_err_and c.from_residual.result c.from_residual.ensures.1 in
+    rw (p.1, p.2) (sym (refused c.args.file.now c.args.place _ (sym c.in_err-judge.ensures.number) (some_number _)))
 
 pub statement_at-requires : goal.statement_at-requires
-statement_at-requires c = accepted_file c.args.file.now (sym c.judge-judged.ensures.number ∙ c.if-breach-ne0.false)
+statement_at-requires c = accepted_file c.args.file.now (sym c.in_ok-judge.ensures.number)
 
 pub returns : goal.returns
-returns c = c.statement_at.ensures ∙ sym (answered c.args.file.now (sym c.judge-judged.ensures.number ∙ c.if-breach-ne0.false) c.args.place)
+returns c = c.statement_at.ensures ∙ sym (answered c.args.file.now (sym c.in_ok-judge.ensures.number) c.args.place)
