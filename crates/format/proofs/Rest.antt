@@ -10,6 +10,7 @@ use native.Mathlib.Nat.{sub-zero}
 use lib.ListN.{length}
 use borrow.Author.Tests.{le-ltb}
 use Rattle.rules.specs.declared.Breach.{Breach}
+use Rattle.rules.specs.declared.Service.{Service}
 use Rattle.rules.specs.declared.Header.{Header}
 use Rattle.rules.specs.declared.Band.{Band}
 use Rattle.rules.specs.declared.PointHead.{PointHead}
@@ -31,10 +32,10 @@ end b = length b * 8
 pub data Kind : Type 0 where
   band_list : Kind
   transfer_list : Kind
-  condition_list : ℕ → Kind
+  condition_list : Service → Kind
   read_list : MeterHead → Kind
-  meter_list : ℕ → Kind
-  point_list : ℕ → Kind
+  meter_list : Service → Kind
+  point_list : Service → Kind
 
 -- a record of the list, before its own lists
 abbrev pub Head : Kind → Type 0

@@ -6,7 +6,7 @@ use native.Mathlib.Nat.{le_refl, pow-le-pow_right, mul-le-mul, mul-le-mul_left, 
 use native.Mathlib.Omega.{arith}
 use Rattle.rules.specs.declared.Read.{Read}
 use Rattle.rules.specs.declared.MeterHead.{MeterHead}
-use Rattle.rules.specs.Sums.{over_days}
+use Rattle.rules.specs.Sums.{only, over_days}
 use Rattle.rules.specs.Lists.{All}
 use Rattle.rules.specs.File.{Meter, records, after, meter_head, read_at, reads, after_read, after_reads}
 use Rattle.rules.specs.Litres.{dial_values, litres_per_count, advance, carried_before, between_reads, from_reads, meter_litres}
@@ -212,13 +212,13 @@ dial_most g = pow-le-pow_right {n = 10} (omega arith) g.digits_to
 
 -- what fits in the counts and litres between two reads, on a dial of so many values
 pub record AdvanceFits (dial : ℕ) (a b : Read) : Type 0 where
-  pub sum : b.value + b.rollover * dial < 200000000
-  pub forward : a.value ≤ b.value + b.rollover * dial
-  pub litres : (b.value + b.rollover * dial - a.value) * 1000 ≤ 100000000000
+  pub sum : b.value + only b.rollover dial < 200000000
+  pub forward : a.value ≤ b.value + only b.rollover dial
+  pub litres : (b.value + only b.rollover dial - a.value) * 1000 ≤ 100000000000
 
 pub advance_fits : {m : MeterHead} {a b : Read} {dial : ℕ} → dial ≡ dial_values m.digits → GoodMeterHead m → GoodRead m a → GoodAdvance m a b → AdvanceFits dial a b
 advance_fits {b = b} e g r v =
-    let rolled = ap (λ d. b.rollover * d) e in
+    let rolled = ap (only b.rollover) e in
     let most = dial_most g in
     record { sum = omega (arith, r.small, v.small); forward = omega (arith, v.forward); litres = omega (arith, v.small) }
 

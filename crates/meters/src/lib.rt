@@ -3,6 +3,7 @@
 // point's meters is read once.
 ghost use Rattle.std.specs.Prelude.{◌≡◌, ◌↔◌, IsTrue, ◌+◌, ◌-◌, ◌*◌, ◌≤◌, ◌<◌, ◌^◌, min, []};
 ghost use Rattle.rules.specs.File.{reads, meter_at, meters as meters_from, after_reads, after_meter, after_meters};
+ghost use Rattle.rules.specs.Sums.{only};
 ghost use Rattle.rules.specs.Litres.{dial_values, advance, carried_before, meter_litres};
 ghost use Rattle.rules.specs.Good.{GoodMeterHead, GoodRead, GoodAdvance, GoodMeter};
 ghost use Rattle.bands.specs.Bands.{bands_in};
@@ -92,12 +93,20 @@ fn spread_advance(spans: &mut [Span], days: SpanDays, from: usize, a: Advance) -
     add_advance(spans, days, from, a)
 }
 
+// What a read's value lacks where the dial has gone past its last value since the read before: as many as the dial has.
+#[tactic(auto, unfolding(rules::specs::Sums::only))]
+fn turned(dial: u64, r: Read) -> u64
+    ensures { result ≡ only r.rollover dial }
+{
+    if r.rollover { dial } else { 0 }
+}
+
 // What the dial counts between two successive reads, in cubic metres; it has so many values.
 fn counts_between(head: MeterHead, dial: u64, earlier: Read, later: Read) -> u64
     requires { GoodMeterHead head × GoodRead head earlier × GoodAdvance head earlier later × (dial ≡ dial_values head.digits) }
     ensures { (result * 1000 ≡ advance (meter_of head []) earlier later) × (result * 1000 ≤ 100000000000) }
 {
-    later.value + later.rollover * dial - earlier.value
+    later.value + turned(dial, later) - earlier.value
 }
 
 // The advance between two successive reads of a meter, whose dial has so many values.

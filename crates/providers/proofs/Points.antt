@@ -4,6 +4,8 @@ use mathlib.Core.Path.{◌≡◌, refl, ap, ap₂, sym, ◌∙◌, subst}
 use mathlib.Core.List.{List, [], ◌∷◌}
 use native.Mathlib.Omega.{arith}
 use lib.ListN.{length}
+use Rattle.rules.specs.declared.Service.{Service}
+use Rattle.rules.specs.declared.Service.TheVariants.{Water}
 use Rattle.rules.specs.declared.Header.{Header}
 use Rattle.rules.specs.declared.PointHead.{PointHead}
 use Rattle.rules.specs.declared.Transfer.{Transfer}
@@ -35,7 +37,7 @@ module _ (b : List ℕ) (at : ℕ) {head : PointHead} {start : ℕ} (e : (head �
   point_transfers = sym (ap₂ (λ (p : PointHead) s. transfers b p.transfers s) e.0 e.1)
 
   -- its transfers give the provider of each day from a day on that is not before its connection
-  pub transfers_sound : {service day : ℕ} → GoodPoint service (point_at b at) → after_point at (point_at b at) < 2 ^ 32 → (point_at b at).supply.connected ≤ day →
+  pub transfers_sound : {service : Service} {day : ℕ} → GoodPoint service (point_at b at) → after_point at (point_at b at) < 2 ^ 32 → (point_at b at).supply.connected ≤ day →
       SoundTransfers b head.transfers start day
   transfers_sound g small h =
       let same = point_transfers in
@@ -58,10 +60,10 @@ module _ (b : List ℕ) (at year : ℕ) {head : PointHead} {start : ℕ} (e : (h
 
   connected_by : point.supply.connected ≤ days.from.0
   connected_by =
-      let tariff : Tariff = record { service = 0; year = year; property_price = 0; roads_price = 0; capacity_rate = 0; standard_rate = 0; bands = [] } in
+      let tariff : Tariff = record { service = Water; year = year; property_price = 0; roads_price = 0; capacity_rate = 0; standard_rate = 0; bands = [] } in
       omega (arith, (charged_days tariff refl).0, connected_first tariff point.supply)
 
-  pub point_sound : {service : ℕ} → GoodPoint service point → after_point at point < 2 ^ 32 → SoundTransfers b head.transfers start days.from.0
+  pub point_sound : {service : Service} → GoodPoint service point → after_point at point < 2 ^ 32 → SoundTransfers b head.transfers start days.from.0
   point_sound g small = transfers_sound b at e g small connected_by
 
   -- the list with the providers of those days

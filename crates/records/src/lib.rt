@@ -2,14 +2,14 @@
 // A reader for each record of a settlement file: the record at a cursor and the cursor after it, whatever the bytes are. Bits past the end are
 // 0, so nothing is refused here.
 ghost use Rattle.std.specs.Prelude.{◌≡◌, ◌<◌, ◌^◌};
-ghost use Rattle.rules.specs.File.{header_at, band_at, point_head_at, transfer_at, condition_at, meter_head_at, read_at};
+ghost use Rattle.rules.specs.File.{service_of, header_at, band_at, point_head_at, transfer_at, condition_at, meter_head_at, read_at};
 ghost use Rattle.rules.specs.File.{bands_at, after_band, transfers_from, after_transfer, after_condition, reads_from, after_read};
 ghost use Rattle.rules.specs.File.{meters, after_meters, point_at, after_point};
 ghost use Rattle.records.specs.Lists.{after_lists};
 ghost use Rattle.records.specs.Conditions.{condition_of};
 
 use bits::{Cursor, Taken, cut};
-use rules::{Band, Condition, Header, MeterHead, PointHead, Read, Transfer};
+use rules::{Band, Condition, Header, MeterHead, PointHead, Read, Service, Transfer};
 
 // A condition by its two groups of fields, as they stand in the file: day, flags and discounts; rateable value. Two numbers hold what a condition
 // has in eight.
@@ -34,10 +34,10 @@ impl From<Groups> for Condition {
     fn from(g: Groups) -> Condition {
         Condition {
             day: g.day(),
-            vacant: cut(g.state, 1, 31),
-            disconnected: cut(g.state, 1, 30),
-            property: cut(g.state, 1, 29),
-            roads: cut(g.state, 1, 28),
+            vacant: cut(g.state, 1, 31) == 1,
+            disconnected: cut(g.state, 1, 30) == 1,
+            property: cut(g.state, 1, 29) == 1,
+            roads: cut(g.state, 1, 28) == 1,
             schedule3: cut(g.state, 14, 14),
             section29e: cut(g.state, 14, 0),
             rateable: g.rateable,
@@ -49,6 +49,17 @@ impl From<Groups> for Condition {
 // Loads are most of what reading costs. So a record is taken in groups of fields that stand side by side, with one load for a group and not for
 // each field, and the fields are cut out of their group. `cut` is given a field's width, as document 01 has it, and how many bits of the group
 // stand after the field.
+
+// The service that a bit stands for.
+fn service_of(bit: u64) -> Service
+    ensures { result ≡ service_of bit }
+{
+    if bit == 0 {
+        Service::Water
+    } else {
+        Service::Sewerage
+    }
+}
 
 // The header, which stands first.
 pub fn header(file: &[u8]) -> Taken<Header>
@@ -63,7 +74,7 @@ pub fn header(file: &[u8]) -> Taken<Header>
         value: Header {
             mark: cut(opening.value, 16, 29),
             version: cut(opening.value, 4, 25),
-            service: cut(opening.value, 1, 24),
+            service: service_of(cut(opening.value, 1, 24)),
             year: cut(opening.value, 12, 12),
             bands: cut(opening.value, 5, 7),
             points: cut(opening.value, 7, 0),
@@ -188,7 +199,7 @@ pub fn read(file: &[u8], c: Cursor) -> Taken<Read>
     Taken {
         value: Read {
             day: cut(whole.value, 16, 28),
-            rollover: cut(whole.value, 1, 27),
+            rollover: cut(whole.value, 1, 27) == 1,
             value: cut(whole.value, 27, 0),
         },
         next,

@@ -1,20 +1,24 @@
 -- `meters::counts_between` meets its contract: the later value less the earlier, with the rollover of the dial. Assumes nothing.
 use Prim.Native.Nat.{◌+◌, ◌-◌, ◌*◌}
-use mathlib.Core.Path.{ap}
+use mathlib.Core.Path.{ap, ◌∙◌}
 use native.Mathlib.Omega.{arith}
+use Rattle.rules.specs.Sums.{only}
 use Rattle.rules.specs.Litres.{litres_per_count, advance}
 use Rattle.meters.proofs.Advances.{advance_fits}
 use Rattle.meters.proofs.counts_between.Goals as goal
 
-pub overflow_mul-result : goal.overflow_mul-result
-overflow_mul-result c = let p = c.requires in let fits = advance_fits p.3 p.0 p.1 p.2 in omega arith
-
 pub overflow_add-result : goal.overflow_add-result
-overflow_add-result c = let p = c.requires in let fits = advance_fits p.3 p.0 p.1 p.2 in omega arith
+overflow_add-result c = let p = c.requires in let fits = advance_fits p.3 p.0 p.1 p.2 in omega (arith, c.turned.ensures)
 
 pub overflow_sub-result : goal.overflow_sub-result
-overflow_sub-result c = let p = c.requires in let fits = advance_fits p.3 p.0 p.1 p.2 in omega arith
+overflow_sub-result c = let p = c.requires in let fits = advance_fits p.3 p.0 p.1 p.2 in omega (arith, c.turned.ensures)
 
 pub returns : goal.returns
 unfolding advance litres_per_count
-returns c = let p = c.requires in let s = c.args in (ap (λ dial. (s.later.value + s.later.rollover * dial - s.earlier.value) * 1000) p.3, (advance_fits p.3 p.0 p.1 p.2).litres)
+returns c =
+    let p = c.requires in
+    let s = c.args in
+    let fits = advance_fits p.3 p.0 p.1 p.2 in (
+      ap (λ turned. (s.later.value + turned - s.earlier.value) * 1000) (c.turned.ensures ∙ ap (only s.later.rollover) p.3),
+      omega (arith, c.turned.ensures),
+    )
