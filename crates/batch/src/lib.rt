@@ -34,6 +34,7 @@ pub fn read_full<R: Read>(input: &mut R, space: &mut [u8]) -> io::Result<usize>
     ensures end { IfOk result (λ n. n < length space.new → IsAtEnd (R.remaining input.new)) }
 {
     let mut done: usize = 0;
+    // A `while`: it goes by what each read gives, and std has no call that fills a slice and says how much it read.
     while done < space.len() {
         let n = input.read(&mut space[done..])?;
         if n == 0 {
@@ -44,13 +45,14 @@ pub fn read_full<R: Read>(input: &mut R, space: &mut [u8]) -> io::Result<usize>
     Ok(done)
 }
 
-// Reads so many bytes and keeps none; false where the input ends before them.
+// Reads so many bytes and keeps none; false where the input ends before them. There is no value beside the answer, so it stays a flag.
 fn passed_over<R: Read>(input: &mut R, count: usize) -> io::Result<bool>
     ensures passed { IfOk result (λ all. all ≡ true → Loses (R.remaining input.old) (R.remaining input.new) count) }
     ensures ended { IfOk result (λ all. all ≡ false → EndsBefore (R.remaining input.old) count) }
 {
     let mut waste = [0u8; 4096];
     let mut left = count;
+    // A `while`: the last part is a shorter one, which `chunks` of nothing can't say.
     while left > 0 {
         let part = left.min(waste.len());
         let n = read_full(input, &mut waste[..part])?;

@@ -120,6 +120,7 @@ fn record_at<R: Dated>(file: &[u8], from: InForce<R>, start: u64, n: usize, i: u
     ensures fewer { (result.left ≤ «from».left) × («from».end ≤ i → result.left < «from».left) }
 {
     let mut w = from;
+    // A `while`: it ends by the day of what is read, and mostly at once.
     while w.end <= i {
         w = next_record(file, w, start, n);
     }
@@ -180,6 +181,7 @@ pub fn cut_days(
     let mut held = no_condition(file, lists.conditions, lists.condition_count, start, n);
     let mut s: usize = 0;
     let mut i: usize = 0;
+    // A `while`: it steps from cut to cut.
     while i < n {
         own = record_at(file, own, start, n, i);
         held = record_at(file, held, start, n, i);

@@ -22,11 +22,11 @@ fn padding(file: &[u8], c: Cursor) -> Result<(), Breach>
 {
     let left = file.len() * 8 - c.at;
     if left >= 8 {
-        return Err(Breach::BadPadding);
+        return Err(Breach::Padding);
     }
     let padding = c.take(file, left as u32);
     if padding.value != 0 {
-        return Err(Breach::BadPadding);
+        return Err(Breach::Padding);
     }
     Ok(())
 }

@@ -58,6 +58,7 @@ fn add_advance(spans: &mut [Span], days: SpanDays, from: usize, a: Advance) -> u
         return s;
     }
     let mut before = carried_before(a, days.start + i as u64);
+    // A `while`: it steps from cut to cut.
     while i < to {
         s = span_with(spans, days, s, i);
         let stop = spans[s].end.min(to);

@@ -111,6 +111,7 @@ pub fn span_with(spans: &[Span], days: SpanDays, from: usize, i: usize) -> usize
     ensures { Holds spans.now days.spans i result }
 {
     let mut s = from;
+    // A `while`: it starts at a place that is known and mostly ends there, where `position` would start a search and owe that it finds one.
     while spans[s].end <= i {
         s += 1;
     }
@@ -142,6 +143,7 @@ pub fn add_figures(spans: &mut [Span], days: SpanDays, from: usize, to: usize, e
 {
     let mut i = from;
     let mut s: usize = 0;
+    // A `while`: it steps from cut to cut.
     while i < to {
         s = span_with(spans, days, s, i);
         let stop = spans[s].end.min(to);
