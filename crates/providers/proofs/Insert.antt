@@ -1,19 +1,21 @@
 -- Where an ascending list takes a number, and what it then is. Assumes nothing.
 use Prim.Native.Nat.{ℕ, zero, suc, ◌+◌, ◌≤◌, ◌<◌}
 use mathlib.Core.Path.{◌≡◌, refl, ap, sym, ◌∙◌}
-use mathlib.Core.Logic.{⊎_elim, ◌↔◌}
+use mathlib.Core.Logic.{⊎_elim}
+use mathlib.Core.Bool.{false, true≢false}
 use mathlib.Core.List.{List, [], ◌∷◌, ◌++◌}
 use native.Mathlib.Omega.{arith}
 use lib.ListN.{length, get_or, take, drop, length-drop, length-append, take-append-drop}
-use lib.Seq.{drop-cons, length-take-le, get_or-drop}
+use lib.Seq.{drop-cons, length-take-le, get_or-drop, take_at}
 use borrow.Author.Tests.{lt-ltb, le-ltb, eq-eqb, ne_eqb}
 use Rattle.rules.specs.Lists.{Ascending, insert}
 use Rattle.rules.proofs.Lists.{three, ascends, insert_ascends}
-use Rattle.std.specs.Prelude.{Result, Ok, Err, IsOk, OnOk, OnErr, MatchResult, IsErrAnd}
-use Rattle.arrayvec.specs.ArrayVec.{ArrayVec}
+use Rattle.std.specs.Prelude.{Result, Ok, Err, IsOk, OnOk, OnErr, MatchResult, insert as insert_at}
+use Rattle.std.specs.Result.{is_ok}
+use Rattle.std.specs.List.{refill}
 use Rattle.rules.specs.declared.Breach.{Breach}
 use Rattle.rules.specs.declared.Breach.TheVariants.{TooManyProviders}
-use Rattle.providers.specs.Listed.{Ascends, Placed, Put}
+use Rattle.providers.specs.Listed.{Ascends, Placed}
 
 -- a number goes past those below it
 pub insert_past : (p r : ℕ) (xs : List ℕ) → ((k : ℕ) → k < r → get_or xs k 0 < p) → r ≤ length xs → insert p xs ≡ take r xs ++ insert p (drop r xs)
@@ -78,33 +80,23 @@ ascending_by low (x ∷ xs) h up = (h (omega arith), ascending_by (suc x) xs (λ
 pub insert_kept : (p : ℕ) (xs : List ℕ) → Ascends xs (length xs) → Ascends (insert p xs) (length (insert p xs))
 insert_kept p xs up = ascends 0 (insert p xs) (insert_ascends p 0 xs (omega arith) (ascending_by 0 xs (λ h. omega arith) up))
 
--- THE LIBRARY'S INSERT, at the place of a number that is not there
-pub record PutIn {T E : Type 0} (r : Result T E) (grown after : List ℕ) : Type 0 where
-  pub few : length after ≤ 64
-  pub ascend : Ascends after (length after)
-  pub put : MatchResult r (λ _. after ≡ grown) (λ _. 64 < length grown)
+-- PUT BEHIND THE OTHERS AND BROUGHT DOWN, to the place of a number that is not there
+module _ (before pushed numbers : List ℕ) (p at : ℕ) (placed : Placed before (length before) p at) (absent : at < length before → get_or before at 0 ≡ p → ⊥)
+    (behind : pushed ≡ before ++ p ∷ []) (down : (front : List ℕ) (last : ℕ) → pushed ≡ front ++ last ∷ [] → numbers ≡ insert_at front at last) where
+  put_down : numbers ≡ insert p before
+  put_down = down before p behind ∙ sym (put before p at placed absent)
 
-module _ (before after : ArrayVec ℕ) (p at : ℕ) (up : Ascends before.items (length before.items)) (few : length before.items ≤ 64)
-    (placed : Placed before.items (length before.items) p at) (absent : at < length before.items → get_or before.items at 0 ≡ p → ⊥) where
-  pub put_in : {T E : Type 0} (r : Result T E) → IsOk r ↔ (length before.items < 64) → OnOk r (after.items ≡ take at before.items ++ p ∷ drop at before.items) → OnErr r (after ≡ before) → OnErr r (length before.items ≡ 64) →
-      PutIn r (insert p before.items) after.items
-  put_in (Ok x) room ok err full =
-      let same : after.items ≡ insert p before.items = ok ∙ sym (put before.items p at placed absent) in
-      record {
-        few = omega (arith, room.0 refl, ap length same, longer before.items p at placed absent);
-        ascend = rw same (insert_kept p before.items up);
-        put = same;
-      }
-  put_in (Err e) room ok err full =
-      record {
-        few = rw err few;
-        ascend = rw err up;
-        put = omega (arith, longer before.items p at placed absent);
-      }
+  pub put_in : refill (length pushed) pushed numbers ≡ insert p before
+  put_in =
+      let long : length numbers ≡ length pushed = ap length put_down ∙ longer before p at placed absent ∙ sym (ap length behind ∙ length-append before (p ∷ [])) in
+      ap (λ (n : ℕ). take n (numbers ++ drop (length numbers) pushed)) (sym long) ∙ take_at numbers (drop (length numbers) pushed) (length numbers) refl ∙ put_down
+
+-- what is said of a value holds where there is one
+pub where_ok : {T E A : Type 0} (r : Result T E) → IsOk r → OnOk r A → A
+where_ok (Ok x) is a = a
+where_ok (Err e) is a = absurd (true≢false (sym is))
 
 -- the library's error is told as the breach
-pub told : {T E : Type 0} (r : Result T E) (s : Result T Breach) (grown after : List ℕ) → MatchResult r (λ _. after ≡ grown) (λ _. 64 < length grown) → (P : E → Breach → Type 0) →
-    ((e : E) (b : Breach) → P e b → b ≡ TooManyProviders) → MatchResult r (λ x. s ≡ Ok x) (λ e. IsErrAnd s (P e)) → Put grown after s
-told (Ok x) s grown after is P breach made = rw made is
-told (Err e) (Ok x) grown after over P breach made = absurd made
-told (Err e) (Err b) grown after over P breach made = (breach e b made, over)
+pub told : {T E A : Type 0} (r : Result T E) (b : Breach) (Y : T → Type 0) (P : E → Type 0) → false ≡ is_ok r → OnErr r A → ((e : E) → P e → b ≡ TooManyProviders) → MatchResult r Y P → (b ≡ TooManyProviders) × A
+told (Ok x) b Y P err full breach made = absurd (true≢false (sym err))
+told (Err e) b Y P err full breach made = (breach e made, full)

@@ -1,3 +1,4 @@
+pub mod Down
 pub mod Insert
 pub mod Runs
 pub mod Days
