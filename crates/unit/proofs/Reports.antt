@@ -1,20 +1,21 @@
 -- The report service's answer by the refusal of the file, and the report of an accepted file by its rows. Assumes nothing.
-use Prim.Native.Nat.{ℕ, zero, suc, ◌≤◌}
+use Prim.Native.Nat.{ℕ, zero, suc, ◌^◌, ◌≤◌, ◌<◌}
 use native.Mathlib.Omega.{arith}
 use mathlib.Core.Path.{◌≡◌, refl, sym, ap, ap₂, ◌∙◌, subst}
 use mathlib.Core.List.{List, [], ◌∷◌, ◌++◌, append-nil}
 use Prim.{tt}
-use Rattle.std.specs.Prelude.{Result, Ok, Err, IfOk}
-use lib.ListN.{length, length-append, take, drop, replicate, length-replicate}
+use Rattle.std.specs.Prelude.{Result, Ok, Err, IfOk, map}
+use lib.ListN.{length, length-append, get_or, take, drop, replicate, length-replicate}
 use lib.Seq.{length-take-le}
 use Rattle.std.proofs.lemmas.List.{drop_all}
 use Rattle.rules.specs.declared.Header.{Header}
 use Rattle.rules.specs.declared.Breach.{Breach}
 use Rattle.rules.specs.Numbered.{number_of, refusal_of, one_number}
 use Rattle.rules.specs.declared.Row.{Row}
-use Rattle.rules.specs.File.{header_at, decode}
+use Rattle.rules.specs.File.{Tariff, Point, header_at, decode}
+use Rattle.rules.specs.Lists.{All}
 use Rattle.rules.specs.Refusal.{first_or, refusal}
-use Rattle.rules.specs.Settlement.{rows, row_and, clear_row, providers_of}
+use Rattle.rules.specs.Settlement.{rows, row_and, clear_row, providers_of, provider_at, plus}
 use Rattle.rules.specs.Report.{report_of, report}
 use Rattle.rules.specs.Services.{written, report_number, report_answer, report_after}
 use Rattle.rules.specs.Fits.{Fits, AllFit}
@@ -26,6 +27,17 @@ use Rattle.unit.proofs.Refused.{some_number, first_refused}
 -- the first of 64 rows, as many as a list has numbers
 pub own_table : (list : List ℕ) (row : Row) → length list ≤ 64 → length list ≡ length (take (length list) (replicate 64 row))
 own_table list row few = sym (length-take-le (length list) (replicate 64 row) (omega (arith, few, length-replicate 64 row)))
+
+-- a row has the provider that it was cleared for
+provider_kept : (tariff : Tariff) (points : List Point) (row : Row) → (row_and tariff row points).provider ≡ row.provider
+unfolding row_and plus
+provider_kept tariff [] row = refl
+provider_kept tariff (point ∷ points) row = provider_kept tariff points (plus row (provider_at tariff point row.provider))
+
+numbered : (tariff : Tariff) (points : List Point) (list : List ℕ) → ((i : ℕ) → get_or list i 0 < 2 ^ 64) → All (λ row. row.provider < 2 ^ 64) (map (λ p. row_and tariff (clear_row p) points) list)
+unfolding clear_row
+numbered tariff points [] fits = tt
+numbered tariff points (p ∷ ps) fits = (rw (provider_kept tariff points (clear_row p)) (fits 0), numbered tariff points ps (λ i. fits (suc i)))
 
 module _ (b : List ℕ) where
   -- a file that is refused, by the refusal's number
@@ -69,6 +81,11 @@ module _ (b : List ℕ) where
     pub rows_all_fit : AllFit t
     unfolding rows
     rows_all_fit = subst AllFit (sym only_rows) (all_map Fits (λ p. row_and (decode b).tariff (clear_row p) (decode b).points) (rows_fit b (accepted_good b e)) (providers_of (decode b).tariff (decode b).points))
+
+    -- each row's provider is one of the file's, which fit
+    pub rows_numbered : (list : List ℕ) → list ≡ providers_of (decode b).tariff (decode b).points → ((i : ℕ) → get_or list i 0 < 2 ^ 64) → All (λ row. row.provider < 2 ^ 64) t
+    unfolding rows
+    rows_numbered list same fits = rw only_rows (numbered (decode b).tariff (decode b).points (providers_of (decode b).tariff (decode b).points) (rw same at fits))
 
     pub report_is : {head : Header} → head ≡ header_at b → report_of head.service head.year t ≡ report (decode b)
     unfolding report decode

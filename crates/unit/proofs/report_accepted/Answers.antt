@@ -4,7 +4,8 @@ use lib.ListN.{length}
 use native.Mathlib.Omega.{arith}
 use Rattle.rules.specs.Services.{room_number, length_or, space_after}
 use Rattle.rules.proofs.Kept.{accepted_file}
-use Rattle.unit.proofs.Reports.{own_table, only_rows, rows_all_fit, report_is}
+use borrow.Author.Rules.{rules}
+use Rattle.unit.proofs.Reports.{own_table, only_rows, rows_all_fit, rows_numbered, report_is}
 use Rattle.unit.proofs.report_accepted.Goals as goal
 
 pub rows_into-requires-clause-file_value : goal.rows_into-requires-clause-file_value
@@ -16,6 +17,7 @@ invariant_of-report c =
     record {
       few = omega (arith, ap length (only_rows c.args.file.now _ c.requires.file_value c.rows_into.ensures.table_after long), c.rows_into.ensures.file_len, c.requires.providers_of.few);
       fit = rows_all_fit c.args.file.now _ c.requires.file_value c.rows_into.ensures.table_after long;
+      numbers = (search rules, rows_numbered c.args.file.now _ c.requires.file_value c.rows_into.ensures.table_after long c.args.list.now c.requires.providers_of.is (λ i. search (rules, c.type_inv.list i)));
     }
 
 pub returns : goal.returns
