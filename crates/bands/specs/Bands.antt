@@ -1,4 +1,4 @@
--- The bands of a tariff, with their sizes in an array.
+-- The bands of a tariff, with their sizes.
 use Rattle.std.specs.Prelude.{ℕ, ◌+◌, ◌*◌, ◌≤◌, ◌<◌, ◌≡◌, List, length, get_or}
 use Rattle.rules.specs.declared.Band.{Band}
 use Rattle.rules.specs.File.{band_at, bands}
@@ -11,9 +11,9 @@ pub record SizesOf (file : List ℕ) (count at : ℕ) (sizes : List ℕ) : Type 
 
 -- there are so many bands, and these are their sizes
 pub record BandsOf (file : List ℕ) (count : ℕ) (bands : Bands) : Type 0 where
-  pub many : bands.count ≡ count
-  pub sizes : SizesOf file count bands.first.at bands.sizes
+  pub many : length bands.sizes.items ≡ count
+  pub sizes : SizesOf file count bands.first.at bands.sizes.items
 
 -- the bands of a file that they are, so many from a position on
 abbrev pub bands_in : List ℕ → Bands → List Band
-bands_in file b = bands file b.count b.first.at
+bands_in file b = bands file (length b.sizes.items) b.first.at

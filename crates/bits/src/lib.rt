@@ -54,16 +54,7 @@ fn eight_last(file: &[u8], i: usize) -> u64
     requires { i < 2 ^ 60 }
     ensures { result ≡ field file.now (i * 8) 64 }
 {
-    u64::from_be_bytes([
-        byte(file, i),
-        byte(file, i + 1),
-        byte(file, i + 2),
-        byte(file, i + 3),
-        byte(file, i + 4),
-        byte(file, i + 5),
-        byte(file, i + 6),
-        byte(file, i + 7),
-    ])
+    u64::from_be_bytes(std::array::from_fn(|k| byte(file, i + k)))
 }
 
 // The eight bytes from an index on, as one number.
@@ -100,6 +91,15 @@ impl Cursor {
                 at: at + width as usize,
             },
         }
+    }
+
+    // The cursor past so many records of a width.
+    pub fn past(self, count: u64, width: usize) -> Cursor
+        requires { self.at + count * width < 2 ^ 64 }
+        ensures { result.at ≡ self.at + count * width }
+    {
+        let at = self.at + count as usize * width;
+        Cursor { at }
     }
 }
 

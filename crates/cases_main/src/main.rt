@@ -87,22 +87,14 @@ fn print_statement<W: Write>(out: &mut W, place: u64, number: u64, s: Statement)
     )
 }
 
-// What is printed beside a refusal.
-const NO_STATEMENT: Statement = Statement {
-    days: Days(0),
-    litres: Litres(0),
-    disconnected: Litres(0),
-    volume: Litres(0),
-    year_cost: Centipence(0),
-    charges: [Centipence(0), Centipence(0), Centipence(0), Centipence(0)],
-};
-
 // No file has more than 64 points, so that the 65th place is refused.
 fn print_statements<W: Write>(out: &mut W, case: Case) -> io::Result<()> {
     for place in 0..65 {
         match unit::statement(case.file, place) {
             Ok(statement) => print_statement(out, place, 0, statement)?,
-            Err(breach) => return print_statement(out, place, breach.number(), NO_STATEMENT),
+            Err(breach) => {
+                return print_statement(out, place, breach.number(), Statement::default());
+            }
         }
     }
     Ok(())

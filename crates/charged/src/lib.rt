@@ -18,18 +18,19 @@ pub fn charged_days(year: u64, connected: u64, disconnected: u64) -> Charged
     requires { (2020 ≤ year) × (year ≤ 2098) }
     ensures { ChargedOf year connected disconnected result }
 {
-    let start = Day::first_of_year(year);
-    let end = Day::first_of_year(year + 1);
-    let from = start.0.max(connected);
+    let from = Day::first_of_year(year).max(Day(connected));
+    let end = Day::first_of_year(year + 1).min(Day(disconnected));
     Charged {
-        from: Day(from),
-        count: Days(end.0.min(disconnected).saturating_sub(from)),
+        from,
+        count: Days(end.0.saturating_sub(from.0)),
     }
 }
 
-// The entry of a day among so many from `start` on: 0 before the first, and their count after the last.
-pub fn entry(count: usize, start: u64, day: u64) -> usize
-    ensures { result ≡ min (day - start) count }
-{
-    day.saturating_sub(start).min(count as u64) as usize
+impl Charged {
+    // The entry of a day: 0 before the first, and their count after the last.
+    pub fn entry(self, day: u64) -> usize
+        ensures { result ≡ min (day - self.from.0) self.count.0 }
+    {
+        day.saturating_sub(self.from.0).min(self.count.0) as usize
+    }
 }

@@ -8,7 +8,7 @@ fn main(rt: HostRuntime) -> io::Result<()> {
     let mut out = rt.stdout();
     batch::for_each_case(&mut input, |_, case| {
         let number = match format::check(case.file) {
-            Ok(()) => 0,
+            Ok(_) => 0,
             Err(breach) => breach.number(),
         };
         writeln!(out, "{number}")

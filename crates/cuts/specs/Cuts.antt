@@ -1,5 +1,5 @@
 -- A point's charged days, cut at its transfers and conditions.
-use Rattle.std.specs.Prelude.{ℕ, ◌+◌, ◌^◌, ◌≤◌, ◌<◌, ◌≡◌, List, map, length}
+use Rattle.std.specs.Prelude.{ℕ, ◌+◌, ◌-◌, ◌^◌, ◌≤◌, ◌<◌, ◌≡◌, cond, min, eqb, List, map, length}
 use Rattle.rules.specs.declared.Condition.{Condition}
 use Rattle.rules.specs.Lists.{Ascending, latest}
 use Rattle.rules.specs.File.{records, after, transfer_at, transfers, condition_at, conditions, after_conditions}
@@ -47,6 +47,14 @@ pub record Reading {A B : Type 0} (here : ℕ → A) (next : ℕ → A → ℕ) 
 abbrev pub Walked : {A R : Type 0} → (ℕ → A) → ℕ → (A → ℕ) → (R → A) → ℕ → ℕ → (ℕ → A) → ℕ → InForce R → Type 0
 Walked here wide day seen start n all i w =
     Reading here (λ at x. at + wide) day (λ x. x) start n all i (seen w.now) (seen w.ahead) w.next.at w.left w.end
+
+-- a record in force, and the one ahead as it stands at a position, of so many that are left with it
+pub record ReadAhead {A R : Type 0} (here : ℕ → A) (wide : ℕ) (day : A → ℕ) (seen : R → A) (start n : ℕ) (now : R) (at left : ℕ) (r : InForce R) : Type 0 where
+  pub now : r.now ≡ now
+  pub ahead : seen r.ahead ≡ here at
+  pub next : r.next.at ≡ at + wide
+  pub left : r.left ≡ left
+  pub end : r.end ≡ cond (eqb left 0) n (min (day (here at) - start) n)
 
 -- the transfers
 abbrev pub Owns : List ℕ → ℕ → ℕ → (ℕ → Transfer) → ℕ → InForce Transfer → Type 0

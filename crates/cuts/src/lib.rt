@@ -5,21 +5,20 @@ ghost use Rattle.std.specs.Prelude.{◌≡◌, ℕ, List, ◌+◌, ◌-◌, ◌�
 ghost use Rattle.rules.specs.File.{transfer_at, condition_at};
 ghost use Rattle.records.specs.Conditions.{condition_of};
 ghost use Rattle.providers.specs.Runs.{SoundTransfers};
-ghost use Rattle.cuts.specs.Cuts.{Walked, Owns, Held, transfer_in, owner_of, condition_in, SoundConditions, CutBy};
+ghost use Rattle.cuts.specs.Cuts.{Walked, ReadAhead, Owns, Held, transfer_in, owner_of, condition_in, SoundConditions, CutBy};
 
 use bits::Cursor;
+use charged::Charged;
 use providers::run_end;
-use records::Groups;
+use records::{Groups, Records};
 use rules::{Condition, Transfer};
 use spans::{MOST_SPANS, Span, set_span};
 
-// Where a point's transfers and conditions stand, and how many there are.
+// A point's transfers and conditions.
 #[derive(Clone, Copy)]
 pub struct Lists {
-    pub transfers: Cursor,
-    pub transfer_count: u64,
-    pub conditions: Cursor,
-    pub condition_count: u64,
+    pub transfers: Records,
+    pub conditions: Records,
 }
 
 // A record of a list whose days ascend, as the file has it, and as the rules see it.
@@ -96,16 +95,15 @@ struct InForce<R> {
     left: u64,
 }
 
-// The record that is ahead comes into force.
-fn next_record<R: Dated>(file: &[u8], w: InForce<R>, start: u64, n: usize) -> InForce<R>
-    requires { (0 < w.left) × (w.next.at < 2 ^ 32) }
-    ensures { ((all : ℕ → R.Seen) (i : ℕ) → Walked (R.here file.now) R.wide R.day_of R.seen start n all i w → w.end ≤ i → Walked (R.here file.now) R.wide R.day_of R.seen start n all i result) × (result.left ≡ w.left - 1) }
+// A record is in force until the day of the one ahead, which stands at a cursor and is read; so many are left with it.
+fn in_force<R: Dated>(file: &[u8], days: Charged, now: R, c: Cursor, left: u64) -> InForce<R>
+    requires { c.at < 2 ^ 32 }
+    ensures { ReadAhead (R.here file.now) R.wide R.day_of R.seen days.from.0 days.count.0 now c.at left result }
 {
-    let (ahead, next) = R::read(file, w.next);
-    let left = w.left - 1;
-    let end = run_end(left, n, start, ahead.day());
+    let (ahead, next) = R::read(file, c);
+    let end = run_end(left, days, ahead.day());
     InForce {
-        now: w.ahead,
+        now,
         end,
         ahead,
         next,
@@ -114,77 +112,50 @@ fn next_record<R: Dated>(file: &[u8], w: InForce<R>, start: u64, n: usize) -> In
 }
 
 // The record in force at entry i, from those before it on.
-fn record_at<R: Dated>(file: &[u8], from: InForce<R>, start: u64, n: usize, i: usize) -> InForce<R>
-    requires { ((all : ℕ → R.Seen) × Walked (R.here file.now) R.wide R.day_of R.seen start n all i «from») × (i < n) }
-    ensures now { ((all : ℕ → R.Seen) → Walked (R.here file.now) R.wide R.day_of R.seen start n all i «from» → Walked (R.here file.now) R.wide R.day_of R.seen start n all i result) × (i < result.end) }
+fn record_at<R: Dated>(file: &[u8], from: InForce<R>, days: Charged, i: usize) -> InForce<R>
+    requires { ((all : ℕ → R.Seen) × Walked (R.here file.now) R.wide R.day_of R.seen days.from.0 days.count.0 all i «from») × (i < days.count.0) }
+    ensures now { ((all : ℕ → R.Seen) → Walked (R.here file.now) R.wide R.day_of R.seen days.from.0 days.count.0 all i «from» → Walked (R.here file.now) R.wide R.day_of R.seen days.from.0 days.count.0 all i result) × (i < result.end) }
     ensures fewer { (result.left ≤ «from».left) × («from».end ≤ i → result.left < «from».left) }
 {
     let mut w = from;
     // A `while`: it ends by the day of what is read, and mostly at once.
     while w.end <= i {
-        w = next_record(file, w, start, n);
+        w = in_force(file, days, w.ahead, w.next, w.left - 1);
     }
     w
 }
 
 // The first of so many transfers, whose day is not after the first day.
-fn first_owner(file: &[u8], c: Cursor, count: u64, start: u64, n: usize) -> InForce<Transfer>
-    requires { SoundTransfers file.now count c.at start }
-    ensures { Owns file.now start n (transfer_in file.now count c.at start) 0 result × (result.left ≡ count - 1) }
+fn first_owner(file: &[u8], list: Records, days: Charged) -> InForce<Transfer>
+    requires { SoundTransfers file.now list.count list.first.at days.from.0 }
+    ensures { Owns file.now days.from.0 days.count.0 (transfer_in file.now list.count list.first.at days.from.0) 0 result × (result.left ≡ list.count - 1) }
 {
-    let first = records::transfer(file, c);
-    let second = records::transfer(file, first.next);
-    let left = count - 1;
-    let end = run_end(left, n, start, second.value.day);
-    InForce {
-        now: first.value,
-        end,
-        ahead: second.value,
-        next: second.next,
-        left,
-    }
+    let first = records::transfer(file, list.first);
+    in_force(file, days, first.value, first.next, list.count - 1)
 }
 
 // Before the first of so many conditions all are 0.
-fn no_condition(file: &[u8], c: Cursor, count: u64, start: u64, n: usize) -> InForce<Groups>
-    requires { SoundConditions file.now count c.at }
-    ensures { Held file.now start n (condition_in file.now count c.at start) 0 result × (result.left ≡ count) }
+fn no_condition(file: &[u8], list: Records, days: Charged) -> InForce<Groups>
+    requires { SoundConditions file.now list.count list.first.at }
+    ensures { Held file.now days.from.0 days.count.0 (condition_in file.now list.count list.first.at days.from.0) 0 result × (result.left ≡ list.count) }
 {
-    let taken = records::condition_groups(file, c);
-    let end = run_end(count, n, start, taken.value.day());
-    let groups = Groups {
-        state: 0,
-        rateable: 0,
-    };
-    InForce {
-        now: groups,
-        end,
-        ahead: taken.value,
-        next: taken.next,
-        left: count,
-    }
+    in_force(file, days, Groups::default(), list.first, list.count)
 }
 
-// The spans of n days from `start` on, with no sums: how many there are. A point has at most 24 transfers and 48 conditions, and so at most 72 spans.
-pub fn cut_days(
-    file: &[u8],
-    lists: Lists,
-    start: u64,
-    n: usize,
-    spans: &mut [Span; MOST_SPANS],
-) -> usize
-    requires sound_transfers { SoundTransfers file.now lists.transfer_count lists.transfers.at start × (lists.transfer_count ≤ 24) }
-    requires sound_conditions { SoundConditions file.now lists.condition_count lists.conditions.at × (lists.condition_count ≤ 48) }
-    ensures { CutBy spans.new n result (owner_of file.now lists.transfer_count lists.transfers.at start) (condition_in file.now lists.condition_count lists.conditions.at start) }
+// The spans of a point's charged days, with no sums: how many there are. A point has at most 24 transfers and 48 conditions, and so at most 72 spans.
+pub fn cut_days(file: &[u8], lists: Lists, days: Charged, spans: &mut [Span; MOST_SPANS]) -> usize
+    requires sound_transfers { SoundTransfers file.now lists.transfers.count lists.transfers.first.at days.from.0 × (lists.transfers.count ≤ 24) }
+    requires sound_conditions { SoundConditions file.now lists.conditions.count lists.conditions.first.at × (lists.conditions.count ≤ 48) }
+    ensures { CutBy spans.new days.count.0 result (owner_of file.now lists.transfers.count lists.transfers.first.at days.from.0) (condition_in file.now lists.conditions.count lists.conditions.first.at days.from.0) }
 {
-    let mut own = first_owner(file, lists.transfers, lists.transfer_count, start, n);
-    let mut held = no_condition(file, lists.conditions, lists.condition_count, start, n);
+    let mut own = first_owner(file, lists.transfers, days);
+    let mut held = no_condition(file, lists.conditions, days);
     let mut s: usize = 0;
     let mut i: usize = 0;
     // A `while`: it steps from cut to cut.
-    while i < n {
-        own = record_at(file, own, start, n, i);
-        held = record_at(file, held, start, n, i);
+    while (i as u64) < days.count.0 {
+        own = record_at(file, own, days, i);
+        held = record_at(file, held, days, i);
         let end = own.end.min(held.end);
         set_span(spans, s, end, own.now.provider, held.now);
         s += 1;

@@ -1,6 +1,7 @@
 #![tactic(auto)]
 // Arithmetic on whole numbers that is exact beyond 64 bits.
 ghost use Rattle.std.specs.Prelude.{◌≡◌, ◌+◌, ◌-◌, ◌*◌, ◌/◌, ◌^◌, ◌<◌};
+ghost use Rattle.rules.specs.Sums.{only};
 ghost use Rattle.exact.specs.Parts.{value, Of};
 
 // A number by a divisor: how often the divisor goes into it, and what is left.
@@ -30,16 +31,13 @@ impl Parts {
         }
     }
 
-    // Twice a number, and another more where the bit is set.
-    fn twice_plus(self, bit: u64, more: Parts, d: u64) -> Parts
-        requires { (self.rest < d) × (more.rest < d) × (bit < 2) × ((2 * value self d + bit * value more d) / d < 2 ^ 64) }
-        ensures { Of d (2 * value self d + bit * value more d) result }
+    // Twice a number, and another more where a bit is set.
+    fn twice_plus(self, set: bool, more: Parts, d: u64) -> Parts
+        requires { (self.rest < d) × (more.rest < d) × ((2 * value self d + only set (value more d)) / d < 2 ^ 64) }
+        ensures { Of d (2 * value self d + only set (value more d)) result }
     {
         let twice = self.plus(self, d);
-        if bit == 0 {
-            return twice;
-        }
-        twice.plus(more, d)
+        if set { twice.plus(more, d) } else { twice }
     }
 }
 
@@ -54,7 +52,7 @@ fn long_product(a: u64, b: u64, d: u64) -> Parts
     };
     let mut p = Parts { whole: 0, rest: 0 };
     for k in (0..64 - a.leading_zeros()).rev() {
-        p = p.twice_plus((a >> k) % 2, q, d);
+        p = p.twice_plus((a >> k) % 2 == 1, q, d);
     }
     p
 }

@@ -1,11 +1,12 @@
 #![tactic(auto)]
 // The check of a settlement file: breaches 1 to 12.
-ghost use Rattle.std.specs.Prelude.{◌≡◌, ◌*◌, ◌≤◌, length};
+ghost use Rattle.std.specs.Prelude.{◌≡◌, ◌*◌, ◌≤◌, length, IfOk};
 ghost use Rattle.rules.specs.Numbered.{refusal_of};
 ghost use Rattle.rules.specs.Refusal.{padding_number, file_refusal};
 
 use bits::Cursor;
-use judges::ReadLimits;
+use judges::{Dial, ReadLimits};
+use records::{Checked, Records};
 use rules::{Breach, Day};
 
 // The most bytes of a file.
@@ -31,10 +32,11 @@ fn padding(file: &[u8], c: Cursor) -> Result<(), Breach>
     Ok(())
 }
 
-// What a file is refused for: its first breach in file order. `least`, `lowest` and `earliest` are the least size, number and day allowed next,
+// What a file is refused for: its first breach in file order; and else the file as checked. `least`, `lowest` and `earliest` are the least size, number and day allowed next,
 // `from` and `until` the days that the next transfer may have.
-pub fn check(file: &[u8]) -> Result<(), Breach>
-    ensures { refusal_of result ≡ file_refusal file.now }
+pub fn check(file: &[u8]) -> Result<Checked, Breach>
+    ensures number { refusal_of result ≡ file_refusal file.now }
+    ensures checked { IfOk result (λ checked. checked.bytes.now ≡ file.now) }
 {
     if file.len() > MOST_BYTES {
         return Err(Breach::FileTooLong);
@@ -100,7 +102,7 @@ pub fn check(file: &[u8]) -> Result<(), Breach>
                     break 'file Err(breach);
                 }
                 c = meter.next;
-                let dial = judges::dial_values(meter.value.digits);
+                let dial = Dial::new(meter.value);
                 let mut limits = ReadLimits {
                     least: 0,
                     latest: Day::NONE.0,
@@ -108,14 +110,7 @@ pub fn check(file: &[u8]) -> Result<(), Breach>
                 };
                 'reads: for _ in 0..meter.value.reads {
                     let read = records::read(file, c);
-                    if let Err(breach) = judges::read(
-                        end,
-                        read.next.at,
-                        meter.value,
-                        dial,
-                        limits,
-                        read.value,
-                    ) {
+                    if let Err(breach) = judges::read(end, read.next.at, dial, limits, read.value) {
                         break 'file Err(breach);
                     }
                     c = read.next;
@@ -127,6 +122,14 @@ pub fn check(file: &[u8]) -> Result<(), Breach>
                 }
             }
         }
-        padding(file, c)
+        padding(file, c)?;
+        Ok(Checked {
+            bytes: file,
+            head,
+            bands: Records {
+                first: header.next,
+                count: head.bands,
+            },
+        })
     }
 }

@@ -1,5 +1,5 @@
 -- What the meters of a point have on its days, and what is said of the spans that they are added to.
-use Rattle.std.specs.Prelude.{ℕ, ◌+◌, ◌-◌, ◌*◌, ◌^◌, ◌≤◌, ◌<◌, ◌≡◌, List, [], map}
+use Rattle.std.specs.Prelude.{ℕ, ◌+◌, ◌-◌, ◌*◌, ◌^◌, ◌≤◌, ◌<◌, ◌≡◌, List, [], map, length}
 use Rattle.rules.specs.declared.Band.{Band}
 use Rattle.rules.specs.declared.Read.{Read}
 use Rattle.rules.specs.declared.MeterHead.{MeterHead}
@@ -104,8 +104,8 @@ pub record GoodMeters (file : List ℕ) (n at : ℕ) : Type 0 where
 
 -- and of the tariff's bands
 pub record GoodBands (file : List ℕ) (bands : Bands) : Type 0 where
-  pub some : 1 ≤ bands.count
+  pub some : 1 ≤ length bands.sizes.items
   pub priced : All GoodBand (bands_in file bands)
   pub rising : Ascending 0 (map (λ b. b.size) (bands_in file bands))
   pub ends : after_bands bands.first.at (bands_in file bands) < 2 ^ 32
-  pub sizes : SizesOf file bands.count bands.first.at bands.sizes
+  pub sizes : SizesOf file (length bands.sizes.items) bands.first.at bands.sizes.items

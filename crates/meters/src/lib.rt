@@ -4,7 +4,7 @@
 ghost use Rattle.std.specs.Prelude.{◌≡◌, ◌↔◌, IsTrue, ◌+◌, ◌-◌, ◌*◌, ◌≤◌, ◌<◌, ◌^◌, min, []};
 ghost use Rattle.rules.specs.File.{reads, meter_at, meters as meters_from, after_reads, after_meter, after_meters};
 ghost use Rattle.rules.specs.Sums.{only};
-ghost use Rattle.rules.specs.Litres.{dial_values, advance, carried_before, meter_litres};
+ghost use Rattle.rules.specs.Litres.{advance, carried_before, meter_litres};
 ghost use Rattle.rules.specs.Good.{GoodMeterHead, GoodRead, GoodAdvance, GoodMeter};
 ghost use Rattle.bands.specs.Bands.{bands_in};
 ghost use Rattle.spans.specs.Spans.{end_in, Cut, Reached, litres_of, figure_of, during, Grown, Room};
@@ -12,10 +12,11 @@ ghost use Rattle.meters.specs.Meters.{Spreadable, spread_of, meter_of, AdvanceOf
 
 use bands::Bands;
 use bits::Cursor;
-use charged::entry;
-use judges::dial_values;
-use rules::{Band, MeterHead, Read};
-use spans::{Figures, Span, SpanDays, add_figures, add_litres, span_with};
+use charged::Charged;
+use judges::Dial;
+use records::Records;
+use rules::{Band, MeterHead, Read, only};
+use spans::{Figures, Span, add_figures, add_litres, span_with};
 
 // So many litres from a day on, before another, of which `parts` ten-thousandths count: share × return.
 #[derive(Clone, Copy)]
@@ -24,12 +25,13 @@ pub struct Advance {
     pub parts: u64,
     pub first: u64,
     pub last: u64,
+    ghost spreadable: { Spreadable litres parts first last },
 }
 
 // What the days of an advance before a day carry. Before the first they carry nothing and before the last day's end all of it, where nothing is
 // divided by the number of days.
 fn carried_before(a: Advance, day: u64) -> u64
-    requires { Spreadable a.litres a.parts a.first a.last × (day ≤ a.last) }
+    requires { day ≤ a.last }
     ensures { result ≡ carried_before a.litres a.parts (a.last - a.first) (day - a.first) }
 {
     if day <= a.first {
@@ -44,25 +46,25 @@ fn carried_before(a: Advance, day: u64) -> u64
 
 // An advance is added to the spans that its days meet: each has what the days before its end carry, less what those before its beginning carry, so
 // that no litre is lost. It begins at a span that does not begin after it, and hands back one that does not begin after its end.
-fn add_advance(spans: &mut [Span], days: SpanDays, from: usize, a: Advance) -> usize
-    requires cut { Cut spans.old days.count days.spans × Spreadable a.litres a.parts a.first a.last }
-    requires reached_2 { Reached spans.old days.spans «from» (min (a.first - days.start) days.count) }
-    requires room { Room spans.old days.spans (λ q i. litres_of (spread_of a (days.start + i)) q) }
-    ensures added { Grown spans.old spans.new days.spans (λ q i. litres_of (spread_of a (days.start + i)) q) }
-    ensures reached { Reached spans.old days.spans result (min (a.last - days.start) days.count) }
+fn add_advance(spans: &mut [Span], days: Charged, from: usize, a: Advance) -> usize
+    requires cut { Cut spans.old days.count.0 (length spans.old) }
+    requires reached_2 { Reached spans.old (length spans.old) «from» (min (a.first - days.from.0) days.count.0) }
+    requires room { Room spans.old (length spans.old) (λ q i. litres_of (spread_of a (days.from.0 + i)) q) }
+    ensures added { Grown spans.old spans.new (length spans.old) (λ q i. litres_of (spread_of a (days.from.0 + i)) q) }
+    ensures reached { Reached spans.old (length spans.old) result (min (a.last - days.from.0) days.count.0) }
 {
-    let to = entry(days.count, days.start, a.last);
-    let mut i = entry(days.count, days.start, a.first);
+    let to = days.entry(a.last);
+    let mut i = days.entry(a.first);
     let mut s = from;
     if to <= i {
         return s;
     }
-    let mut before = carried_before(a, days.start + i as u64);
+    let mut before = carried_before(a, days.from.0 + i as u64);
     // A `while`: it steps from cut to cut.
     while i < to {
-        s = span_with(spans, days, s, i);
+        s = span_with(spans, s, i);
         let stop = spans[s].end.min(to);
-        let up = carried_before(a, days.start + stop as u64);
+        let up = carried_before(a, days.from.0 + stop as u64);
         add_litres(spans, s, up - before);
         before = up;
         i = stop;
@@ -72,20 +74,20 @@ fn add_advance(spans: &mut [Span], days: SpanDays, from: usize, a: Advance) -> u
 
 // Whether the span at a place holds all days of an advance that it does not begin after.
 #[tactic(auto, unfolding(spans::specs::Spans::span_in))]
-fn holds_all(spans: &[Span], days: SpanDays, s: usize, a: Advance) -> bool
-    requires { Cut spans.now days.count days.spans × (a.first < a.last) }
-    ensures { IsTrue result ↔ ((s < days.spans) × (days.start ≤ a.first) × (a.last - days.start ≤ end_in spans.now s)) }
+fn holds_all(spans: &[Span], days: Charged, s: usize, a: Advance) -> bool
+    requires { Cut spans.now days.count.0 (length spans.now) × (a.first < a.last) }
+    ensures { IsTrue result ↔ ((s < length spans.now) × (days.from.0 ≤ a.first) × (a.last - days.from.0 ≤ end_in spans.now s)) }
 {
-    s < days.spans && days.start <= a.first && a.last - days.start <= spans[s].end as u64
+    s < spans.len() && days.from.0 <= a.first && a.last - days.from.0 <= spans[s].end as u64
 }
 
 // An advance that one span holds, as most are held, is added to it whole, and none of its days is asked for. Any other is cut at the spans' ends.
-fn spread_advance(spans: &mut [Span], days: SpanDays, from: usize, a: Advance) -> usize
-    requires cut { Cut spans.old days.count days.spans × Spreadable a.litres a.parts a.first a.last }
-    requires reached_2 { Reached spans.old days.spans «from» (min (a.first - days.start) days.count) }
-    requires room { Room spans.old days.spans (λ q i. litres_of (spread_of a (days.start + i)) q) }
-    ensures added { Grown spans.old spans.new days.spans (λ q i. litres_of (spread_of a (days.start + i)) q) }
-    ensures reached { Reached spans.old days.spans result (min (a.last - days.start) days.count) }
+fn spread_advance(spans: &mut [Span], days: Charged, from: usize, a: Advance) -> usize
+    requires cut { Cut spans.old days.count.0 (length spans.old) }
+    requires reached_2 { Reached spans.old (length spans.old) «from» (min (a.first - days.from.0) days.count.0) }
+    requires room { Room spans.old (length spans.old) (λ q i. litres_of (spread_of a (days.from.0 + i)) q) }
+    ensures added { Grown spans.old spans.new (length spans.old) (λ q i. litres_of (spread_of a (days.from.0 + i)) q) }
+    ensures reached { Reached spans.old (length spans.old) result (min (a.last - days.from.0) days.count.0) }
 {
     if holds_all(spans, days, from, a) {
         add_litres(spans, from, a.litres * a.parts / 10000);
@@ -94,43 +96,35 @@ fn spread_advance(spans: &mut [Span], days: SpanDays, from: usize, a: Advance) -
     add_advance(spans, days, from, a)
 }
 
-// What a read's value lacks where the dial has gone past its last value since the read before: as many as the dial has.
-#[tactic(auto, unfolding(rules::specs::Sums::only))]
-fn turned(dial: u64, r: Read) -> u64
-    ensures { result ≡ only r.rollover dial }
+// What the dial counts between two successive reads, in cubic metres: it may have gone past its last value.
+fn counts_between(dial: Dial, earlier: Read, later: Read) -> u64
+    requires { GoodMeterHead dial.meter × GoodRead dial.meter earlier × GoodAdvance dial.meter earlier later }
+    ensures { (result * 1000 ≡ advance (meter_of dial.meter []) earlier later) × (result * 1000 ≤ 100000000000) }
 {
-    if r.rollover { dial } else { 0 }
+    later.value + only(later.rollover, dial.values) - earlier.value
 }
 
-// What the dial counts between two successive reads, in cubic metres; it has so many values.
-fn counts_between(head: MeterHead, dial: u64, earlier: Read, later: Read) -> u64
-    requires { GoodMeterHead head × GoodRead head earlier × GoodAdvance head earlier later × (dial ≡ dial_values head.digits) }
-    ensures { (result * 1000 ≡ advance (meter_of head []) earlier later) × (result * 1000 ≤ 100000000000) }
+// The advance between two successive reads of a meter.
+fn advance_of(dial: Dial, earlier: Read, later: Read) -> Advance
+    requires { GoodMeterHead dial.meter × GoodRead dial.meter earlier × GoodAdvance dial.meter earlier later }
+    ensures { AdvanceOf dial.meter earlier later result }
 {
-    later.value + turned(dial, later) - earlier.value
-}
-
-// The advance between two successive reads of a meter, whose dial has so many values.
-fn advance_of(head: MeterHead, dial: u64, earlier: Read, later: Read) -> Advance
-    requires { GoodMeterHead head × GoodRead head earlier × GoodAdvance head earlier later × (dial ≡ dial_values head.digits) }
-    ensures { AdvanceOf head earlier later result }
-{
-    let counts = counts_between(head, dial, earlier, later);
+    let counts = counts_between(dial, earlier, later);
     Advance {
         litres: counts * 1000,
-        parts: head.share * head.returned,
+        parts: dial.meter.share * dial.meter.returned,
         first: earlier.day,
         last: later.day,
     }
 }
 
 // A meter's litres, from its reads. Their days ascend, so that each advance begins at the span where the one before it ended.
-fn add_reads(file: &[u8], c: Cursor, head: MeterHead, spans: &mut [Span], days: SpanDays) -> Cursor
+fn add_reads(file: &[u8], c: Cursor, head: MeterHead, spans: &mut [Span], days: Charged) -> Cursor
     requires at_bound { after_reads c.at (reads file.now head.reads c.at) < 2 ^ 32 }
-    requires good_meter { GoodMeter (meter_of head (reads file.now head.reads c.at)) × Cut spans.old days.count days.spans }
-    requires room { Room spans.old days.spans (λ q i. litres_of (meter_litres (meter_of head (reads file.now head.reads c.at)) (days.start + i)) q) }
+    requires good_meter { GoodMeter (meter_of head (reads file.now head.reads c.at)) × Cut spans.old days.count.0 (length spans.old) }
+    requires room { Room spans.old (length spans.old) (λ q i. litres_of (meter_litres (meter_of head (reads file.now head.reads c.at)) (days.from.0 + i)) q) }
     ensures ends { result.at ≡ after_reads c.at (reads file.now head.reads c.at) }
-    ensures grown { Grown spans.old spans.new days.spans (λ q i. litres_of (meter_litres (meter_of head (reads file.now head.reads c.at)) (days.start + i)) q) }
+    ensures grown { Grown spans.old spans.new (length spans.old) (λ q i. litres_of (meter_litres (meter_of head (reads file.now head.reads c.at)) (days.from.0 + i)) q) }
 {
     if head.reads == 0 {
         return c;
@@ -139,11 +133,11 @@ fn add_reads(file: &[u8], c: Cursor, head: MeterHead, spans: &mut [Span], days: 
     let mut earlier = first.value;
     let mut next = first.next;
     let mut s: usize = 0;
-    let dial = dial_values(head.digits);
+    let dial = Dial::new(head);
     for _ in 1..head.reads {
         let taken = records::read(file, next);
         let later = taken.value;
-        let advance = advance_of(head, dial, earlier, later);
+        let advance = advance_of(dial, earlier, later);
         s = spread_advance(spans, days, s, advance);
         earlier = later;
         next = taken.next;
@@ -165,10 +159,10 @@ fn figures_of(band: Band, share: u64) -> Figures
 }
 
 // Whether there is a day, and entries from one on, before another, are all there are.
-fn on_all_days(days: SpanDays, from: usize, to: usize) -> bool
-    ensures { IsTrue result ↔ ((«from» ≡ 0) × (to ≡ days.count) × (0 < to)) }
+fn on_all_days(days: Charged, from: usize, to: usize) -> bool
+    ensures { IsTrue result ↔ ((«from» ≡ 0) × (to ≡ days.count.0) × (0 < to)) }
 {
-    from == 0 && to == days.count && 0 < to
+    from == 0 && to as u64 == days.count.0 && 0 < to
 }
 
 // The cursor after some meters, and what every day has of them besides what stands in the spans' sums.
@@ -181,21 +175,21 @@ pub struct MetersAdded {
 // The figures of a meter that is there on all days, as most are, are only added to `every`, what every day has besides what stands in the sums.
 fn add_during(
     spans: &mut [Span],
-    days: SpanDays,
+    days: Charged,
     head: MeterHead,
     each: Figures,
     every: Figures,
 ) -> Figures
-    requires cut { Cut spans.old days.count days.spans }
-    requires room_with { RoomWith every spans.old days.spans (λ q i. during head.installed head.removed (λ d. figure_of each q) (days.start + i)) }
-    ensures { GrownWith every result spans.old spans.new days.spans (λ q i. during head.installed head.removed (λ d. figure_of each q) (days.start + i)) }
+    requires cut { Cut spans.old days.count.0 (length spans.old) }
+    requires room_with { RoomWith every spans.old (length spans.old) (λ q i. during head.installed head.removed (λ d. figure_of each q) (days.from.0 + i)) }
+    ensures { GrownWith every result spans.old spans.new (length spans.old) (λ q i. during head.installed head.removed (λ d. figure_of each q) (days.from.0 + i)) }
 {
-    let from = entry(days.count, days.start, head.installed);
-    let to = entry(days.count, days.start, head.removed);
+    let from = days.entry(head.installed);
+    let to = days.entry(head.removed);
     if on_all_days(days, from, to) {
         return every + each;
     }
-    add_figures(spans, days, from, to, each);
+    add_figures(spans, from, to, each);
     every
 }
 
@@ -205,15 +199,15 @@ fn add_meter<'a>(
     c: Cursor,
     bands: &'a Bands,
     spans: &mut [Span],
-    days: SpanDays,
+    days: Charged,
     every: Figures,
 ) -> MetersAdded
     requires at_bound { after_meter c.at (meter_at file.now c.at) < 2 ^ 32 }
     requires good_bands { GoodBands file.now bands.now }
-    requires good_meter { GoodMeter (meter_at file.now c.at) × Cut spans.old days.count days.spans }
-    requires room_with { RoomWith every spans.old days.spans (λ q i. meter_figure (bands_in file.now bands.now) q (meter_at file.now c.at) (days.start + i)) }
+    requires good_meter { GoodMeter (meter_at file.now c.at) × Cut spans.old days.count.0 (length spans.old) }
+    requires room_with { RoomWith every spans.old (length spans.old) (λ q i. meter_figure (bands_in file.now bands.now) q (meter_at file.now c.at) (days.from.0 + i)) }
     ensures ends { result.next.at ≡ after_meter c.at (meter_at file.now c.at) }
-    ensures added { GrownWith every result.every spans.old spans.new days.spans (λ q i. meter_figure (bands_in file.now bands.now) q (meter_at file.now c.at) (days.start + i)) }
+    ensures added { GrownWith every result.every spans.old spans.new (length spans.old) (λ q i. meter_figure (bands_in file.now bands.now) q (meter_at file.now c.at) (days.from.0 + i)) }
 {
     let taken = records::meter(file, c);
     let head = taken.value;
@@ -227,20 +221,19 @@ fn add_meter<'a>(
 // What the days of each span have of the meters, where the sums were 0. What the meters that are there on all days have together is handed back, and is not added to the spans.
 pub fn add_meters<'a>(
     file: &'a [u8],
-    c: Cursor,
-    count: u64,
+    list: Records,
     bands: &'a Bands,
     spans: &mut [Span],
-    days: SpanDays,
+    days: Charged,
 ) -> MetersAdded
-    requires good_meters { GoodMeters file.now count c.at × GoodBands file.now bands.now }
-    requires cut { Cut spans.old days.count days.spans × SumsClear spans.old days.spans × (days.count ≤ 366) }
-    ensures ends { result.next.at ≡ after_meters c.at (meters_from file.now count c.at) }
-    ensures sums { MetersIn result.every spans.old spans.new days.spans days.start (bands_in file.now bands.now) (meters_from file.now count c.at) }
+    requires good_meters { GoodMeters file.now list.count list.first.at × GoodBands file.now bands.now }
+    requires cut { Cut spans.old days.count.0 (length spans.old) × SumsClear spans.old (length spans.old) × (days.count.0 ≤ 366) }
+    ensures ends { result.next.at ≡ after_meters list.first.at (meters_from file.now list.count list.first.at) }
+    ensures sums { MetersIn result.every spans.old spans.new (length spans.old) days.from.0 (bands_in file.now bands.now) (meters_from file.now list.count list.first.at) }
 {
-    let mut every = Figures::NONE;
-    let mut next = c;
-    for _ in 0..count {
+    let mut every = Figures::default();
+    let mut next = list.first;
+    for _ in 0..list.count {
         let added = add_meter(file, next, bands, spans, days, every);
         every = added.every;
         next = added.next;

@@ -1,9 +1,9 @@
 -- A list of providers, which ascends, and what is put into it.
 use Rattle.std.specs.Prelude.{ℕ, ◌≤◌, ◌<◌, cond, ◌≡◌, List, ltb, length, get_or, Result, MatchResult, IfOk}
 use Rattle.rules.specs.Lists.{insert}
-use Rattle.rules.specs.File.{Tariff, Point, point_at, after_point}
+use Rattle.rules.specs.File.{Tariff, Point, point_at, after_point, decode}
 use Rattle.rules.specs.Charges.{charged_from, charged_count}
-use Rattle.rules.specs.Settlement.{insert_days}
+use Rattle.rules.specs.Settlement.{insert_days, providers_of}
 use Rattle.bits.specs.declared.Cursor.{Cursor}
 use Rattle.rules.specs.declared.Breach.{Breach}
 use Rattle.rules.specs.declared.Breach.TheVariants.{TooManyProviders}
@@ -34,3 +34,8 @@ point_providers tariff point ps = insert_days point (charged_from tariff point.s
 pub record WithPoint (file : List ℕ) (at year : ℕ) (before after : List ℕ) (r : Result Cursor Breach) : Type 0 where
   pub put : (tariff : Tariff) → tariff.year ≡ year → Put (point_providers tariff (point_at file at) before) after r
   pub ends : IfOk r (λ next. next.at ≡ after_point at (point_at file at))
+
+-- a list is an accepted file's providers, at most 64
+pub record ProvidersOf (b : List ℕ) (list : List ℕ) : Type 0 where
+  pub few : length list ≤ 64
+  pub is : list ≡ providers_of (decode b).tariff (decode b).points

@@ -1,19 +1,68 @@
 #![tactic(auto)]
 // A reader for each record of a settlement file: the record at a cursor and the cursor after it, whatever the bytes are. Bits past the end are
 // 0, so nothing is refused here.
-ghost use Rattle.std.specs.Prelude.{◌≡◌, ◌<◌, ◌^◌};
+ghost use Rattle.std.specs.Prelude.{◌≡◌, ◌+◌, ◌*◌, ◌<◌, ◌^◌};
 ghost use Rattle.rules.specs.File.{service_of, header_at, band_at, point_head_at, transfer_at, condition_at, meter_head_at, read_at};
-ghost use Rattle.rules.specs.File.{bands_at, after_band, transfers_from, after_transfer, after_condition, reads_from, after_read};
+ghost use Rattle.rules.specs.File.{bands_at, bands, after_band, after_bands, transfers_from, after_transfer, after_condition, reads_from, after_read};
 ghost use Rattle.rules.specs.File.{meters, after_meters, point_at, after_point};
+ghost use Rattle.rules.specs.Refusal.{file_refusal};
 ghost use Rattle.records.specs.Lists.{after_lists};
 ghost use Rattle.records.specs.Conditions.{condition_of};
 
 use bits::{Cursor, Taken, cut};
 use rules::{Band, Condition, Header, MeterHead, PointHead, Read, Service, Transfer};
 
+// How many bits a record of each kind has.
+pub const BAND_BITS: usize = 90;
+
+pub const TRANSFER_BITS: usize = 32;
+
+pub const CONDITION_BITS: usize = 72;
+
+const METER_BITS: usize = 72;
+
+const READ_BITS: usize = 44;
+
+// So many records of one kind, one after the other from a cursor on.
+#[derive(Clone, Copy, PartialEq, Eq)]
+pub struct Records {
+    pub first: Cursor,
+    pub count: u64,
+}
+
+impl Records {
+    // The cursor after them, by the bits of each.
+    pub fn end(self, width: usize) -> Cursor
+        requires { self.first.at + self.count * width < 2 ^ 64 }
+        ensures { result.at ≡ self.first.at + self.count * width }
+    {
+        self.first.past(self.count, width)
+    }
+}
+
+// A file that breaks none of 1 to 12, with its header, and where its bands stand: all of a call that comes after the check goes on from here.
+#[derive(Clone, Copy)]
+pub struct Checked<'a> {
+    pub bytes: &'a [u8],
+    pub head: Header,
+    pub bands: Records,
+    ghost sound: { file_refusal bytes.now ≡ 0 },
+    ghost header: { head ≡ header_at bytes.now },
+    ghost listed: { (bands.first.at ≡ bands_at) × (bands.count ≡ head.bands) },
+}
+
+impl Checked<'_> {
+    // The cursor of the first point, after the bands.
+    pub fn first_point(&self) -> Cursor
+        ensures { result.at ≡ after_bands bands_at (bands self.now.bytes.now self.now.head.bands bands_at) }
+    {
+        self.bands.end(BAND_BITS)
+    }
+}
+
 // A condition by its two groups of fields, as they stand in the file: day, flags and discounts; rateable value. Two numbers hold what a condition
 // has in eight.
-#[derive(Clone, Copy, PartialEq, Eq)]
+#[derive(Clone, Copy, Default, PartialEq, Eq)]
 pub struct Groups {
     pub state: u64,
     pub rateable: u64,
@@ -85,6 +134,14 @@ pub fn header(file: &[u8]) -> Taken<Header>
         },
         next,
     }
+}
+
+// The size of a band, which is its first field.
+pub fn band_size(file: &[u8], c: Cursor) -> u64
+    requires { c.at < 2 ^ 32 }
+    ensures { result ≡ (band_at file.now c.at).size }
+{
+    c.take(file, 16).value
 }
 
 pub fn band(file: &[u8], c: Cursor) -> Taken<Band>
@@ -206,19 +263,20 @@ pub fn read(file: &[u8], c: Cursor) -> Taken<Read>
     }
 }
 
-// The cursor after some meters and their reads. Of a meter only the count of its reads is taken: its last field, which ends its 72 bits.
-fn after_meters(file: &[u8], c: Cursor, count: u64) -> Cursor
-    requires { after_meters c.at (meters file.now count c.at) < 2 ^ 32 }
-    ensures { result.at ≡ after_meters c.at (meters file.now count c.at) }
+// The cursor after some meters and their reads. Of a meter only the count of its reads is taken: its last field, of 6 bits.
+fn after_meters(file: &[u8], list: Records) -> Cursor
+    requires { after_meters list.first.at (meters file.now list.count list.first.at) < 2 ^ 32 }
+    ensures { result.at ≡ after_meters list.first.at (meters file.now list.count list.first.at) }
 {
-    let mut at = c.at;
-    for _ in 0..count {
-        let count_at = Cursor { at: at + 66 };
-        let taken = count_at.take(file, 6);
-        let reads = taken.value as usize;
-        at = taken.next.at + reads * 44;
+    let mut next = list.first;
+    for _ in 0..list.count {
+        let count_at = Cursor {
+            at: next.at + (METER_BITS - 6),
+        };
+        let reads = count_at.take(file, 6);
+        next = reads.next.past(reads.value, READ_BITS);
     }
-    Cursor { at }
+    next
 }
 
 // The cursor after a point's conditions and meters, of the cursor after its transfers. Records of one width are passed over by their count.
@@ -226,9 +284,9 @@ pub fn after_lists(file: &[u8], c: Cursor, head: PointHead) -> Cursor
     requires { after_lists file.now c.at head < 2 ^ 32 }
     ensures { result.at ≡ after_lists file.now c.at head }
 {
-    let conditions = head.conditions as usize;
-    let at = c.at + conditions * 72;
-    after_meters(file, Cursor { at }, head.meters)
+    let first = c.past(head.conditions, CONDITION_BITS);
+    let count = head.meters;
+    after_meters(file, Records { first, count })
 }
 
 // The cursor after a point.
@@ -238,7 +296,6 @@ pub fn after_point(file: &[u8], c: Cursor) -> Cursor
 {
     let taken = point(file, c);
     let head = taken.value;
-    let transfers = head.transfers as usize;
-    let at = taken.next.at + transfers * 32;
-    after_lists(file, Cursor { at }, head)
+    let conditions = taken.next.past(head.transfers, TRANSFER_BITS);
+    after_lists(file, conditions, head)
 }

@@ -1,8 +1,8 @@
 #![tactic(auto)]
-// The charged days of a supply point by spans: days that stand side by side and have one provider and one condition. A point's spans stand in a lent
+// The charged days of a supply point by spans: days that stand side by side and have one provider and one condition. A point's spans fill a lent
 // slice, each with the entry before which it ends, its provider, its condition by groups, and four sums over its days. What some days have is added
 // to the spans that they meet, so that nothing is kept or done for each day.
-ghost use Rattle.std.specs.Prelude.{◌≡◌, ◌+◌, ◌*◌, ◌<◌, ◌≤◌, ◌^◌, length};
+ghost use Rattle.std.specs.Prelude.{◌≡◌, ℕ, ◌+◌, ◌*◌, ◌<◌, ◌≤◌, ◌^◌, length};
 ghost use Rattle.spans.specs.Spans.{Sums, Times, Cut, Reached, Holds, SpanSet, SumsAdded, figure_of, litres_of, RoomAt, during, Grown, Room};
 
 use records::Groups;
@@ -11,28 +11,12 @@ use std::ops::{Add, Mul};
 // A point has at most 24 transfers and 48 conditions, and so at most as many spans.
 pub const MOST_SPANS: usize = 72;
 
-// A point's charged days, so many from `start` on, which are cut into so many spans. The number of a day, from 0 on, is its entry.
-#[derive(Clone, Copy)]
-pub struct SpanDays {
-    pub start: u64,
-    pub count: usize,
-    pub spans: usize,
-}
-
 // What each of some days has of meters, or all of them together: annual charge, allowance and threshold × share.
-#[derive(Clone, Copy)]
+#[derive(Clone, Copy, Default)]
 pub struct Figures {
     pub annual: u64,
     pub allowance: u64,
     pub threshold: u64,
-}
-
-impl Figures {
-    pub const NONE: Figures = Figures {
-        annual: 0,
-        allowance: 0,
-        threshold: 0,
-    };
 }
 
 // Each is added to its own.
@@ -70,26 +54,13 @@ impl Mul<u64> for Figures {
 }
 
 // Days that stand side by side and have one provider and one condition: the entry before which they end, and what all of them have together.
-#[derive(Clone, Copy)]
+#[derive(Clone, Copy, Default)]
 pub struct Span {
     pub end: usize,
     pub provider: u64,
     pub groups: Groups,
     pub litres: u64,
     pub figures: Figures,
-}
-
-impl Span {
-    pub const EMPTY: Span = Span {
-        end: 0,
-        provider: 0,
-        groups: Groups {
-            state: 0,
-            rateable: 0,
-        },
-        litres: 0,
-        figures: Figures::NONE,
-    };
 }
 
 // The span at a place ends before an entry, and has a provider and a condition; its sums are 0.
@@ -101,14 +72,14 @@ pub fn set_span(spans: &mut [Span], s: usize, end: usize, provider: u64, groups:
         end,
         provider,
         groups,
-        ..Span::EMPTY
+        ..Span::default()
     };
 }
 
 // The span that holds the day of an entry, from one on that does not begin after it.
-pub fn span_with(spans: &[Span], days: SpanDays, from: usize, i: usize) -> usize
-    requires { Cut spans.now days.count days.spans × Reached spans.now days.spans «from» i × (i < days.count) }
-    ensures { Holds spans.now days.spans i result }
+pub fn span_with(spans: &[Span], from: usize, i: usize) -> usize
+    requires { (n : ℕ) × Cut spans.now n (length spans.now) × Reached spans.now (length spans.now) «from» i × (i < n) }
+    ensures { Holds spans.now (length spans.now) i result }
 {
     let mut s = from;
     // A `while`: it starts at a place that is known and mostly ends there, where `position` would start a search and owe that it finds one.
@@ -136,16 +107,16 @@ fn add_each(spans: &mut [Span], s: usize, days: u64, each: Figures)
 }
 
 // The days of the entries from one on, before another, have more of meters.
-pub fn add_figures(spans: &mut [Span], days: SpanDays, from: usize, to: usize, each: Figures)
-    requires cut { Cut spans.old days.count days.spans × (to ≤ days.count) }
-    requires room { Room spans.old days.spans (λ q. during «from» to (λ i. figure_of each q)) }
-    ensures { Grown spans.old spans.new days.spans (λ q. during «from» to (λ i. figure_of each q)) }
+pub fn add_figures(spans: &mut [Span], from: usize, to: usize, each: Figures)
+    requires cut { (n : ℕ) × Cut spans.old n (length spans.old) × (to ≤ n) }
+    requires room { Room spans.old (length spans.old) (λ q. during «from» to (λ i. figure_of each q)) }
+    ensures { Grown spans.old spans.new (length spans.old) (λ q. during «from» to (λ i. figure_of each q)) }
 {
     let mut i = from;
     let mut s: usize = 0;
     // A `while`: it steps from cut to cut.
     while i < to {
-        s = span_with(spans, days, s, i);
+        s = span_with(spans, s, i);
         let stop = spans[s].end.min(to);
         add_each(spans, s, (stop - i) as u64, each);
         i = stop;
