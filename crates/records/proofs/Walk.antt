@@ -57,25 +57,34 @@ module _ (b : List ℕ) where
     point_among = p.among _ (subst (In (point_at b at)) (sym (points_one left at h)) (inl refl))
 
   -- all points, after the bands
-  module _ (g : Good b) {head : Header} {start : ℕ} (e : (head ≡ header_at b) × (start ≡ bands_at)) where
-    bands_end : start + head.bands * 90 ≡ after_bands bands_at (decode b).tariff.bands
+  module _ (g : Good b) {head : Header} {at : ℕ} (e : head ≡ header_at b) (f : at ≡ after_bands bands_at (bands b head.bands bands_at)) where
+    bands_end : at ≡ after_bands bands_at (decode b).tariff.bands
     unfolding decode
-    bands_end =
-        ap (λ (h : Header). start + h.bands * 90) e.0
-        ∙ (ap (λ s. s + (header_at b).bands * 90) e.1 ∙ sym (records_wide 90 (band_at b) (header_at b).bands bands_at))
+    bands_end = f ∙ ap (λ (h : Header). after_bands bands_at (bands b h.bands bands_at)) e
+
+    pub first_points : points b head.points at ≡ (decode b).points
+    unfolding decode
+    first_points = ap (λ at. points b head.points at) bands_end ∙ ap (λ (h : Header). points b h.points (after_bands bands_at (bands b (header_at b).bands bands_at))) e
+
+    pub first_left : PointsLeft head.points at
+    first_left =
+        record {
+          good = subst (All (GoodPoint (decode b).tariff.service)) (sym first_points) g.points;
+          ends = omega (arith, g.fits, ap (λ from. after_points from (points b head.points at)) bands_end, ap (after_points (after_bands bands_at (decode b).tariff.bands)) first_points);
+          short = g.short;
+          among = λ point m. subst (In point) first_points m;
+        }
+
+  -- the same, where the cursor is past so many bands
+  module _ (g : Good b) {head : Header} {start : ℕ} (e : (head ≡ header_at b) × (start ≡ bands_at)) where
+    past_bands : start + head.bands * 90 ≡ after_bands bands_at (bands b head.bands bands_at)
+    past_bands = ap (λ s. s + head.bands * 90) e.1 ∙ sym (records_wide 90 (band_at b) head.bands bands_at)
 
     pub file_points : points b head.points (start + head.bands * 90) ≡ (decode b).points
-    unfolding decode
-    file_points = ap (λ at. points b head.points at) bands_end ∙ ap (λ (h : Header). points b h.points (after_bands bands_at (bands b (header_at b).bands bands_at))) e.0
+    file_points = first_points g e.0 past_bands
 
     pub points_start : PointsLeft head.points (start + head.bands * 90)
-    points_start =
-        record {
-          good = subst (All (GoodPoint (decode b).tariff.service)) (sym file_points) g.points;
-          ends = omega (arith, g.fits, ap (λ at. after_points at (points b head.points (start + head.bands * 90))) bands_end, ap (after_points (after_bands bands_at (decode b).tariff.bands)) file_points);
-          short = g.short;
-          among = λ point m. subst (In point) file_points m;
-        }
+    points_start = first_left g e.0 past_bands
 
     pub year_from_lem : 2020 ≤ head.year
     unfolding decode
