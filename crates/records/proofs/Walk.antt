@@ -1,6 +1,6 @@
 -- From point to point of an accepted file: the points that are left at a position are its, are sound and end within the file. Assumes nothing.
 use Prim.Native.Nat.{ℕ, zero, suc, ◌+◌, ◌-◌, ◌*◌, ◌^◌, ◌≤◌, ◌<◌}
-use mathlib.Core.Path.{◌≡◌, refl, sym, ap, ◌∙◌, subst}
+use mathlib.Core.Path.{◌≡◌, refl, sym, ap, ap₂, ◌∙◌, subst}
 use mathlib.Core.Logic.{inl, inr}
 use mathlib.Core.List.{List, ◌∷◌}
 use native.Mathlib.Omega.{arith}
@@ -75,16 +75,17 @@ module _ (b : List ℕ) where
           among = λ point m. subst (In point) first_points m;
         }
 
-  -- the same, where the cursor is past so many bands
-  module _ (g : Good b) {head : Header} {start : ℕ} (e : (head ≡ header_at b) × (start ≡ bands_at)) where
-    past_bands : start + head.bands * 90 ≡ after_bands bands_at (bands b head.bands bands_at)
-    past_bands = ap (λ s. s + head.bands * 90) e.1 ∙ sym (records_wide 90 (band_at b) head.bands bands_at)
+  -- the cursor past as many bands as the header says is after the bands
+  pub past_bands : (head : Header) {start n : ℕ} → (start ≡ bands_at) × (n ≡ head.bands) → start + n * 90 ≡ after_bands bands_at (bands b head.bands bands_at)
+  past_bands head e = ap₂ (λ (s n : ℕ). s + n * 90) e.0 e.1 ∙ sym (records_wide 90 (band_at b) head.bands bands_at)
 
+  -- all points again, by that cursor
+  module _ (g : Good b) {head : Header} {start : ℕ} (e : (head ≡ header_at b) × (start ≡ bands_at)) where
     pub file_points : points b head.points (start + head.bands * 90) ≡ (decode b).points
-    file_points = first_points g e.0 past_bands
+    file_points = first_points g e.0 (past_bands head (e.1, refl))
 
     pub points_start : PointsLeft head.points (start + head.bands * 90)
-    points_start = first_left g e.0 past_bands
+    points_start = first_left g e.0 (past_bands head (e.1, refl))
 
     pub year_from_lem : 2020 ≤ head.year
     unfolding decode

@@ -17,13 +17,13 @@ pub overflow_add-count_at : goal.overflow_add-count_at
 overflow_add-count_at c = omega (arith, meter_here _ c.loop.invariant)
 
 pub take-reads-requires : goal.take-reads-requires
-take-reads-requires c = ?
+take-reads-requires c = (search rules, omega (arith, meter_here _ c.loop.invariant))
 
 pub past-next-requires : goal.past-next-requires
-past-next-requires c = ?
+past-next-requires c = omega (arith, meter_here _ (meter_past _ c.loop.invariant (c.args.list.count - suc c.loop.counter) (omega arith) c.take-reads.ensures))
 
 pub loop-preserved : goal.loop-preserved
-loop-preserved c = ?
+loop-preserved c = rw c.past-next.ensures (meter_past _ c.loop.invariant _ (omega arith) c.take-reads.ensures)
 
 pub returns : goal.returns
 returns c = meters_done _ c.loop.invariant (omega arith)
