@@ -40,9 +40,8 @@ conditions_left h p lowest point k from = list (condition_list h.service) point.
 abbrev pub transfers_left : Header → ℕ → ℕ → PointHead → ℕ → ℕ → ℕ → Rest
 transfers_left h p lowest point t from until = list transfer_list point.transfers t (from, until) (conditions_left h p lowest point 0 0)
 
-abbrev pub reads_left : Header → ℕ → ℕ → ℕ → ℕ → MeterHead → ℕ → ReadLimits → Rest
-reads_left h p lowest meters m meter r limits =
-    list (read_list meter) meter.reads r (limits.least, (limits.latest, limits.before)) (meters_left h p lowest meters (m + 1))
+abbrev pub reads_left : MeterHead → ℕ → ℕ → ReadLimits → Rest → Rest
+reads_left meter reads r limits meters = list (read_list meter) reads r (limits.least, (limits.latest, limits.before)) meters
 
 -- a record without a breach ends within the file
 fits : (b : List ℕ) (kind : Kind) (next : ℕ) (s : State kind) (v : Head kind) → rule b kind next s v ≡ 0 → next ≤ end b
