@@ -15,8 +15,9 @@ use Rattle.rules.specs.File.{header_at, bands_at}
 use Rattle.rules.specs.Refusal.{header_rule, band_rule, point_rule, transfer_rule, condition_rule, meter_rule, read_rule, padding_number, first_or, file_refusal}
 use Rattle.rules.proofs.Fields.{field_lt}
 use Rattle.rules.proofs.Judged.{lacks_none}
+use Rattle.rules.proofs.Numbers.{positive}
 use Rattle.judges.specs.declared.ReadLimits.{ReadLimits}
-use Rattle.format.proofs.Rest.{Kind, band_list, transfer_list, condition_list, read_list, meter_list, point_list, Head, State, head_at, past, rule, Rest, list, padding, onward, opened, rest_number, end, positive, first_stop, first_go, list_done, list_turn, file_turn, padding_turn}
+use Rattle.format.proofs.Rest.{Kind, band_list, transfer_list, condition_list, read_list, meter_list, point_list, Head, State, head_at, past, rule, Rest, list, padding, onward, opened, rest_number, end, first_stop, first_go, list_done, list_turn, file_turn, padding_turn}
 
 -- the refusal of the whole file is that of what is still to come, and the position is within the file
 pub record At (b : List ℕ) (at : ℕ) (rest : Rest) : Type 0 where
