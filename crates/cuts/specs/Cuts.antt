@@ -2,9 +2,9 @@
 use Rattle.std.specs.Prelude.{ℕ, ◌+◌, ◌-◌, ◌^◌, ◌≤◌, ◌<◌, ◌≡◌, cond, min, eqb, List, map, length}
 use Rattle.rules.specs.declared.Condition.{Condition}
 use Rattle.rules.specs.Lists.{Ascending, latest}
-use Rattle.rules.specs.File.{records, after, transfer_at, transfers, condition_at, conditions, after_conditions}
+use Rattle.rules.specs.File.{transfer_at, transfers, condition_at, conditions, after_conditions}
 use Rattle.rules.specs.Charges.{no_condition}
-use Rattle.charged.specs.Charged.{first_entry}
+use Rattle.providers.specs.Runs.{Reading}
 use Rattle.records.specs.Conditions.{condition_of}
 use Rattle.spans.specs.declared.Span.{Span}
 use Rattle.spans.specs.Spans.{span_in, begin_in, end_in, Cut, Sum, sum_in}
@@ -34,13 +34,13 @@ abbrev pub Walked : {A R : Type 0} → (ℕ → A) → ℕ → (A → ℕ) → (
 Walked here wide day seen start n all i w =
     Reading here (λ at x. at + wide) day (λ x. x) start n all i (seen w.now) (seen w.ahead) w.next.at w.left w.end
 
--- a record in force, and the one ahead as it stands at a position, of so many that are left with it
-pub record ReadAhead {A R : Type 0} (here : ℕ → A) (wide : ℕ) (day : A → ℕ) (seen : R → A) (start n : ℕ) (now : R) (at left : ℕ) (r : InForce R) : Type 0 where
-  pub now : r.now ≡ now
+-- a record that came into force, and the one ahead as it stands at a position, of so many that are left with it
+pub record ReadAhead {A R : Type 0} (here : ℕ → A) (wide : ℕ) (day : A → ℕ) (seen : R → A) (start n : ℕ) (came : R) (at count : ℕ) (r : InForce R) : Type 0 where
+  pub now : r.now ≡ came
   pub ahead : seen r.ahead ≡ here at
   pub next : r.next.at ≡ at + wide
-  pub left : r.left ≡ left
-  pub end : r.end ≡ cond (eqb left 0) n (min (day (here at) - start) n)
+  pub left : r.left ≡ count
+  pub end : r.end ≡ cond (eqb count 0) n (min (day (here at) - start) n)
 
 -- the transfers
 abbrev pub Owns : List ℕ → ℕ → ℕ → (ℕ → Transfer) → ℕ → InForce Transfer → Type 0
