@@ -7,7 +7,7 @@ use Rattle.rules.specs.Refusal.{when}
 use native.Mathlib.Omega.{arith}
 use lib.ListN.{length}
 use borrow.Author.Tests.{lt-ltb, le-ltb}
-use Rattle.std.proofs.lemmas.Result.{err_from_is_err_and}
+use Rattle.rules.proofs.Exits.{handed_on}
 use Rattle.rules.proofs.Accepted.{accepted}
 use Rattle.records.proofs.Walk.{point_here, point_within}
 use Rattle.providers.proofs.Points.{listing_start, listing_next, listing_over, listing_done}
@@ -21,10 +21,9 @@ put_point-requires c = let points = c.loop.invariant.points in (point_here _ poi
 
 pub returns-in_err-next-clause-number : goal.returns-in_err-next-clause-number
 returns-in_err-next-clause-number c =
-    let err = err_from_is_err_and c.from_residual.result c.from_residual.ensures.1 in
     let some : 0 < c.args.file.head.points - c.loop.counter = omega arith in
     let over = c.in_err-next.ensures.put _ c.loop.invariant.is in
-    rw (err.1, err.2, lt-ltb _ _ (listing_over _ c.loop.invariant some over.1)) (ap number_of over.0)
+    rw (handed_on c.from_residual.ensures.1, lt-ltb _ _ (listing_over _ c.loop.invariant some over.1)) (ap number_of over.0)
 
 pub loop-preserved : goal.loop-preserved
 loop-preserved c = listing_next _ c.loop.invariant (omega arith) (omega arith) (c.in_ok-next.ensures.put _ c.loop.invariant.is) c.in_ok-next.ensures.ends

@@ -3,7 +3,7 @@ use mathlib.Core.Path.{refl, sym, ap, ◌∙◌}
 use native.Mathlib.Omega.{arith}
 use Rattle.rules.specs.File.{bands_at, point_at}
 use Rattle.rules.proofs.Accepted.{accepted}
-use Rattle.std.proofs.lemmas.Result.{err_from_is_err_and}
+use Rattle.rules.proofs.Exits.{handed_on}
 use Rattle.records.specs.Lists.{after_lists}
 use Rattle.records.proofs.Positions.{point_forward}
 use Rattle.records.proofs.Skip.{point_past, point_small}
@@ -25,12 +25,11 @@ put_transfers-requires c = point_sound _ c.args.c.at c.args.file.now.head.year c
 
 pub returns-in_err-put_transfers : goal.returns-in_err-put_transfers
 returns-in_err-put_transfers c =
-    let err = err_from_is_err_and c.from_residual.result c.from_residual.ensures.1 in
     let a = c.args in
     let file = a.file.now.bytes.now in
     let same = point_put file a.c.at a.file.now.head.year c.point-taken.ensures c.charged_days-days.ensures a.self.now.list.items in
     let over = c.in_err-put_transfers.ensures _ (point_transfers file a.c.at c.point-taken.ensures) in
-    rw (err.1, err.2) (record { put = λ tariff y. (over.0, rw (sym (same tariff y)) over.1); ends = tt })
+    rw (handed_on c.from_residual.ensures.1) (record { put = λ tariff y. (over.0, rw (sym (same tariff y)) over.1); ends = tt })
 
 pub end-conditions-requires : goal.end-conditions-requires
 end-conditions-requires c = omega (arith, point_small c.args.file.now.bytes.now c.args.c.at c.point-taken.ensures c.requires.1)

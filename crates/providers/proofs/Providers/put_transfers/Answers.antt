@@ -1,6 +1,6 @@
 -- `Providers::put_transfers` meets its contract: the days before the transfer that is read are put in. Assumes nothing.
 use native.Mathlib.Omega.{arith}
-use Rattle.std.proofs.lemmas.Result.{err_from_is_err_and}
+use Rattle.rules.proofs.Exits.{handed_on}
 use Rattle.providers.proofs.Runs.{transfers_within}
 use Rattle.providers.proofs.Days.{putting_begin, putting_small, putting_turn, putting_over, putting_end}
 use Rattle.providers.proofs.Providers.put_transfers.Goals as goal
@@ -16,8 +16,7 @@ transfer-taken-requires c = putting_small _ _ _ _ _ c.loop-left.invariant c.loop
 
 pub returns-in_err-put_run : goal.returns-in_err-put_run
 returns-in_err-put_run c =
-    let err = err_from_is_err_and c.from_residual.result c.from_residual.ensures.1 in
-    rw (err.1, err.2) (λ point same.
+    rw (handed_on c.from_residual.ensures.1) (λ point same.
     (c.in_err-put_run.ensures.0, putting_over _ _ _ _ _ c.loop-left.invariant c.loop-left-test.true c.transfer-taken.ensures c.run_end-to.ensures point same c.in_err-put_run.ensures.1))
 
 pub loop-left-preserved : goal.loop-left-preserved
