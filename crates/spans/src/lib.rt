@@ -3,7 +3,7 @@
 // slice, each with the entry before which it ends, its provider, its condition by groups, and four sums over its days. What some days have is added
 // to the spans that they meet, so that nothing is kept or done for each day.
 ghost use Rattle.std.specs.Prelude.{◌≡◌, ℕ, ◌+◌, ◌*◌, ◌<◌, ◌≤◌, ◌^◌, length};
-ghost use Rattle.spans.specs.Spans.{Sums, Times, Cut, Reached, Holds, SpanSet, SumsAdded, figure_of, litres_of, RoomAt, during, Grown, Room};
+ghost use Rattle.spans.specs.Spans.{Sums, Times, begin_in, Cut, Reached, Holds, SpanSet, SumsAdded, figure_of, litres_of, RoomAt, during, Grown, Room};
 
 use records::Groups;
 use std::ops::{Add, Mul};
@@ -78,7 +78,7 @@ pub fn set_span(spans: &mut [Span], s: usize, end: usize, provider: u64, groups:
 
 // The span that holds the day of an entry, from one on that does not begin after it.
 pub fn span_with(spans: &[Span], from: usize, i: usize) -> usize
-    requires { (n : ℕ) × Cut spans.now n (length spans.now) × Reached spans.now (length spans.now) «from» i × (i < n) }
+    requires { Reached spans.now (length spans.now) «from» i × (i < begin_in spans.now (length spans.now)) }
     ensures { Holds spans.now (length spans.now) i result }
 {
     let mut s = from;
