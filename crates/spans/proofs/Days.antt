@@ -143,20 +143,12 @@ pub reached_first : (spans : List Span) (m i : ℕ) → Reached spans m 0 i
 unfolding begin_in
 reached_first spans m i = record { within = zero-le; begun = zero-le }
 
-module _ {spans : List Span} {m s i : ℕ} (r : Reached spans m s i) (some : i < begin_in spans m) where
-  reached_span : s < m
-  reached_span = elim (dec_lt s m) [
-    | yes lt ↦ lt
-    | no ge ↦ let e : s ≡ m = omega (arith, r.within) in absurd (omega (arith, r.begun, ap (begin_in spans) e))
-  ]
-
-  -- the next one begins where it ends
-  pub reached_next : end_in spans s ≤ i → Reached spans m (s + 1) i
-  unfolding begin_in
-  reached_next k = record { within = omega (arith, reached_span); begun = subst (λ t. begin_in spans t ≤ i) {x = suc s} {y = s + 1} (omega arith) k }
-
-  pub reached_holds : i < end_in spans s → Holds spans m i s
-  reached_holds k = record { within = reached_span; begun = r.begun; lasts = k }
+-- the next one begins where it ends
+pub reached_next : {spans : List Span} {m s i : ℕ} → Reached spans m s i → i < begin_in spans m → end_in spans s ≤ i → Reached spans m (s + 1) i
+unfolding begin_in
+reached_next {spans} {m} {s} {i} r h k =
+    let within : s < m = grind arith in
+    record { within = omega arith; begun = subst (λ t. begin_in spans t ≤ i) {x = suc s} {y = s + 1} (omega arith) k }
 
 -- equal functions have equal sums, and smaller ones smaller
 pub over_eq : (spans : List Span) (s : ℕ) {f g : ℕ → ℕ} → ((i : ℕ) → begin_in spans s ≤ i → i < end_in spans s → f i ≡ g i) → over_span spans s f ≡ over_span spans s g

@@ -13,7 +13,7 @@ use Rattle.rules.proofs.Lists.{three}
 use Rattle.records.specs.declared.Groups.{Groups}
 use Rattle.spans.specs.declared.Figures.{Figures}
 use Rattle.spans.specs.declared.Span.{Span}
-use Rattle.spans.specs.Spans.{Sums, Times, clear_span, span_in, Sum, litres_sum, annual_sum, allowance_sum, threshold_sum, sum_of, sum_in, SpanSet, SumsAdded, litres_of, figure_of}
+use Rattle.spans.specs.Spans.{Sums, Times, span_in, Sum, litres_sum, annual_sum, allowance_sum, threshold_sum, sum_of, sum_in, SpanSet, SumsAdded, litres_of, figure_of}
 
 module _ (spans : List Span) (s : ℕ) (span : Span) where
   written_here : s < length spans → span_in (set spans s span) s ≡ span

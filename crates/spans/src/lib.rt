@@ -77,6 +77,7 @@ pub fn set_span(spans: &mut [Span], s: usize, end: usize, provider: u64, groups:
 }
 
 // The span that holds the day of an entry, from one on that does not begin after it.
+#[tactic(auto, unfolding(crate::specs::Spans::span_in))]
 pub fn span_with(spans: &[Span], from: usize, i: usize) -> usize
     requires { Reached spans.now (length spans.now) «from» i × (i < begin_in spans.now (length spans.now)) }
     ensures { Holds spans.now (length spans.now) i result }
@@ -107,6 +108,7 @@ fn add_each(spans: &mut [Span], s: usize, days: u64, each: Figures)
 }
 
 // The days of the entries from one on, before another, have more of meters.
+#[tactic(auto, unfolding(crate::specs::Spans::span_in))]
 pub fn add_figures(spans: &mut [Span], from: usize, to: usize, each: Figures)
     requires cut { (n : ℕ) × Cut spans.old n (length spans.old) × (to ≤ n) }
     requires room { Room spans.old (length spans.old) (λ q. during «from» to (λ i. figure_of each q)) }
