@@ -10,6 +10,7 @@ use native.Mathlib.Omega.{arith}
 use borrow.Author.Tests.{eq-eqb, ne_eqb, le-leb, lt-leb, lt-ltb, le-ltb}
 use lib.ListN.{length}
 use lib.Dec.{eqb}
+use Rattle.std.proofs.lemmas.Bool.Decides.{nat_tests}
 use Rattle.rules.specs.Sums.{only, over_days}
 use Rattle.rules.proofs.Lists.{three}
 use Rattle.rules.proofs.Shares.{days_eq, days_add, days_none}
@@ -21,60 +22,38 @@ use Rattle.spans.specs.Spans.{end_in, begin_in, Cut, Reached, Holds, Sum, sum_in
 module _ (from to : ℕ) (f : ℕ → ℕ) (i : ℕ) where
   pub during_in : from ≤ i → i < to → during from to f i ≡ f i
   unfolding during only
-  during_in h k = simp (le-leb from i h, lt-ltb i to k)
+  during_in h k = grind (arith, nat_tests)
 
   pub during_before : i < from → during from to f i ≡ 0
   unfolding during only
-  during_before h = simp (lt-leb from i h)
+  during_before h = grind (arith, nat_tests)
 
   pub during_after : to ≤ i → during from to f i ≡ 0
   unfolding during only
-  during_after k = elim (dec_lt i from) [
-    | yes lt ↦ during_before lt
-    | no ge ↦ let h : from ≤ i = omega arith in simp (le-leb from i h, le-ltb i to k)
-  ]
+  during_after k = grind (arith, nat_tests)
 
 -- up to a day, and then on
 during_split : (from i to : ℕ) (f : ℕ → ℕ) (e : ℕ) → from ≤ i → i ≤ to → during from to f e ≡ during from i f e + during i to f e
-during_split from i to f e a b = elim (dec_lt e i) [
-  | yes lt ↦ elim (dec_lt e from) [
-    | yes l ↦ omega (arith, during_before from to f e l, during_before from i f e l, during_before i to f e lt)
-    | no g ↦ omega (arith, during_in from to f e (omega arith) (omega arith), during_in from i f e (omega arith) lt, during_before i to f e lt)
-  ]
-  | no ge ↦ elim (dec_lt e to) [
-    | yes l ↦ omega (arith, during_in from to f e (omega arith) l, during_after from i f e (omega arith), during_in i to f e (omega arith) l)
-    | no g ↦ omega (arith, during_after from to f e (omega arith), during_after from i f e (omega arith), during_after i to f e (omega arith))
-  ]
-]
+unfolding during only
+during_split from i to f e a b = grind (arith, nat_tests)
 
 -- where there is no day between the two
 pub during_none : (from to : ℕ) (f : ℕ → ℕ) (e : ℕ) → to ≤ from → during from to f e ≡ 0
-during_none from to f e h = elim (dec_lt e from) [
-  | yes lt ↦ during_before from to f e lt
-  | no ge ↦ during_after from to f e (omega arith)
-]
+unfolding during only
+during_none from to f e h = grind (arith, nat_tests)
 
 -- the entries of days, of n from `start` on
 pub during_entry : (n start first last : ℕ) (f : ℕ → ℕ) (i : ℕ) → i < n → during (min (first - start) n) (min (last - start) n) (λ i. f (start + i)) i ≡ during first last f (start + i)
-during_entry n start first last f i h = elim (dec_lt (start + i) first) [
-  | yes lt ↦ during_before _ _ _ i (omega arith) ∙ sym (during_before first last f (start + i) lt)
-  | no ge ↦ elim (dec_lt (start + i) last) [
-    | yes lt ↦ during_in _ _ _ i (omega arith) (omega arith) ∙ sym (during_in first last f (start + i) (omega arith) lt)
-    | no g ↦ during_after _ _ _ i (omega arith) ∙ sym (during_after first last f (start + i) (omega arith))
-  ]
-]
+unfolding during only
+during_entry n start first last f i h = grind (arith, nat_tests)
 
 pub during_le : (from to b : ℕ) (f : ℕ → ℕ) (i : ℕ) → f i ≤ b → during from to f i ≤ b
-during_le from to b f i h = elim (dec_lt i from) [
-  | yes lt ↦ omega (arith, during_before from to f i lt)
-  | no ge ↦ elim (dec_lt i to) [
-    | yes lt ↦ omega (arith, during_in from to f i (omega arith) lt)
-    | no g ↦ omega (arith, during_after from to f i (omega arith))
-  ]
-]
+unfolding during only
+during_le from to b f i h = grind (arith, nat_tests)
 
 pub during_zero : (from to i : ℕ) → during from to (λ e. 0) i ≡ 0
-during_zero from to i = omega (arith, during_le from to 0 (λ e. 0) i zero-le)
+unfolding during only
+during_zero from to i = grind (arith, nat_tests)
 
 -- OVER A RANGE of days, from b on
 module _ (b n i to : ℕ) (f : ℕ → ℕ) where
