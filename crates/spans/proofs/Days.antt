@@ -93,10 +93,7 @@ module _ {spans : List Span} {n m : ℕ} (cut : Cut spans n m) where
   span_later s t h k = let e : suc (s + (t - suc s)) ≡ t = omega arith in subst (λ t. end_in spans s ≤ begin_in spans t) e (later s (t - suc s) (omega arith))
 
   pub span_within : (s : ℕ) → s < m → end_in spans s ≤ n
-  span_within s h = elim (dec_lt (suc s) m) [
-    | yes lt ↦ omega (arith, span_later s m h (le_refl m), cut.all)
-    | no ge ↦ let e : suc s ≡ m = omega arith in omega (arith, subst (λ t. end_in spans s ≤ begin_in spans t) e (let p : end_in spans s ≤ begin_in spans (suc s) = span_later s (suc s) (omega arith) (omega arith) in p), cut.all)
-  ]
+  span_within s h = omega (arith, span_later s m h (le_refl m), cut.all)
 
   -- THE SUM OVER A SPAN of days up to an entry of it, and then on to another
   module _ {s i : ℕ} (holds : Holds spans m i s) {stop : ℕ} (forward : i ≤ stop) (within : stop ≤ end_in spans s) (f : ℕ → ℕ) where
