@@ -60,33 +60,18 @@ module _ (a : Advance) where
   abbrev pub carried_on : ℕ → ℕ
   carried_on d = carried a.litres a.parts a.first a.last d
 
-  carried_as : (x y : ℕ) → x ≡ y → carried_before a.litres a.parts (a.last - a.first) x ≡ carried_before a.litres a.parts (a.last - a.first) y
-  carried_as x y e = ap (carried_before a.litres a.parts (a.last - a.first)) e
-
   pub carried_later : {x y up below : ℕ} → below ≡ carried_to x → up ≡ carried_to y → x ≤ y → below ≤ up
   carried_later {x} {y} b u h = omega (arith, carried_grows a.litres a.parts (a.last - a.first) (x - a.first) (y - a.first) (omega arith))
 
   days_carry : (d k : ℕ) → a.first ≤ d → carried_to (d + k) ≡ carried_to d + over_days d k carried_on
   unfolding over_days carried
-  days_carry d zero h = omega (arith, carried_as (d + 0 - a.first) (d - a.first) (omega arith))
-  days_carry d (suc k) h =
-      omega (
-        arith,
-        days_carry d k h,
-        carried_as (d + suc k - a.first) (d + k - a.first + 1) (omega arith),
-        carried_grows a.litres a.parts (a.last - a.first) (d + k - a.first) (d + k - a.first + 1) (omega arith),
-      )
+  days_carry d zero h = grind arith
+  days_carry d (suc k) h = grind (arith, days_carry d k h, carried_grows a.litres a.parts (a.last - a.first) (d + k - a.first) (d + k - a.first + 1) (omega arith))
 
   -- those of the entries from i on, before `stop`, as one of the sums; the day of entry i is start + i
   pub piece_is : (start i stop : ℕ) {x up below : ℕ} → a.first ≤ start + i → i ≤ stop → x ≡ up - below → up ≡ carried_to (start + stop) → below ≡ carried_to (start + i) →
       (q : Sum) → litres_of x q ≡ over_days i (stop - i) (litres_at start carried_on q)
-  piece_is start i stop h k e u b litres_sum =
-      omega (
-        arith,
-        days_carry (start + i) (stop - i) h,
-        carried_as (start + i + (stop - i) - a.first) (start + stop - a.first) (omega arith),
-        days_shift start i (stop - i) carried_on,
-      )
+  piece_is start i stop h k e u b litres_sum = grind (arith, days_carry (start + i) (stop - i) h, days_shift start i (stop - i) carried_on)
   piece_is start i stop h k e u b annual_sum = sym (days_none _ _)
   piece_is start i stop h k e u b allowance_sum = sym (days_none _ _)
   piece_is start i stop h k e u b threshold_sum = sym (days_none _ _)
