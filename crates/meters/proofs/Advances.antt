@@ -18,7 +18,7 @@ use Rattle.records.proofs.Positions.{length_records}
 use Rattle.records.proofs.Ahead.{Ahead, read_one, read_past, ahead_done}
 use Rattle.spans.specs.declared.Span.{Span}
 use Rattle.spans.specs.Spans.{end_in, Cut, Reached, Holds, SumsAdded, RoomAt, Sum, litres_sum, annual_sum, allowance_sum, threshold_sum, litres_of, during, Grown, Room}
-use Rattle.spans.proofs.Days.{during_none, during_zero, during_entry, span_within, grown_on, grown_none, room_on, Adding, adding_none, adding_room, adding_more, adding_done, reached_first, kept_all, cut_kept, reached_kept, reached_before, Rest, rest_all, rest_room, rest_more, rest_none}
+use Rattle.spans.proofs.Days.{during_zero, during_entry, span_within, grown_on, grown_none, room_on, adding_none, adding_room, adding_more, adding_done, reached_first, cut_kept, reached_kept, reached_before, Rest, rest_all, rest_room, rest_more, rest_none}
 use Rattle.meters.specs.declared.advance.Advance.{Advance}
 use Rattle.meters.specs.Spreadable.{Spreadable}
 use Rattle.meters.specs.Meters.{carried, spread, spread_of, meter_of, AdvanceOf}
@@ -40,11 +40,11 @@ pub carried_grows : (litres parts n x y : ℕ) → x ≤ y → carried_before li
 unfolding carried_before
 carried_grows litres parts n x y h = div_mono (10000 * n) (mul-le-mul_left (litres * parts) h)
 
-pub amount_fits : {litres parts first last : ℕ} → Spreadable litres parts first last → litres * parts ≤ 1000000000000000
-amount_fits s = omega (arith, mul-le-mul s.few s.whole)
+pub amount_fits : (a : Advance) → a.litres * a.parts ≤ 1000000000000000
+amount_fits a = omega (arith, mul-le-mul a.spreadable.few a.spreadable.whole)
 
-pub product_fits : {litres parts first last : ℕ} (j : ℕ) → Spreadable litres parts first last → j ≤ 3660 → litres * parts * j ≤ 3660000000000000000
-product_fits j s h = omega (arith, mul-le-mul (amount_fits s) h)
+pub product_fits : (a : Advance) (day : ℕ) → day ≤ a.last → a.litres * a.parts * (day - a.first) ≤ 3660000000000000000
+product_fits a day h = omega (arith, mul-le-mul {m₁ = day - a.first} {m₂ = 3660} (amount_fits a) (omega (arith, a.spreadable.near)))
 
 -- litres of an entry's day, as one of the sums
 abbrev pub litres_at : ℕ → (ℕ → ℕ) → Sum → ℕ → ℕ

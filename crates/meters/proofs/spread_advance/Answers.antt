@@ -5,7 +5,7 @@ use Rattle.meters.proofs.Advances.{amount_fits, whole_room, whole_added}
 use Rattle.meters.proofs.spread_advance.Goals as goal
 
 pub overflow_mul-a : goal.overflow_mul-a
-overflow_mul-a c = omega (arith, amount_fits c.args.a.spreadable)
+overflow_mul-a c = omega (arith, amount_fits c.args.a)
 
 pub add_litres-requires : goal.add_litres-requires
 add_litres-requires c = whole_room _ c.args.a c.requires.cut c.requires.reached_2 (c.holds_all.ensures.0 c.if-holds_all.true) c.requires.room
