@@ -1,10 +1,11 @@
 -- The bands of a tariff: which of them serves, by their sizes. Assumes nothing.
-use Prim.Native.Nat.{ℕ, zero, suc, ◌+◌, ◌-◌, ◌*◌, ◌≤◌, ◌<◌, zero-le}
+use Prim.Native.Nat.{ℕ, zero, suc, ◌+◌, ◌-◌, ◌*◌, ◌^◌, ◌≤◌, ◌<◌, zero-le}
 use mathlib.Core.Path.{◌≡◌, refl, sym, ap, ◌∙◌}
 use mathlib.Core.Bool.{Bool, true, false, cond}
 use mathlib.Core.List.{List, map}
+use native.Mathlib.Nat.{le_refl}
 use native.Mathlib.Omega.{arith}
-use borrow.Author.Tests.{eq-eqb, ne_eqb, lt-leb, leb-true, leb-false}
+use borrow.Author.Tests.{ne_eqb, lt-leb, leb-true, leb-false}
 use lib.Dec.{leb}
 use lib.ListN.{length, get_or}
 use Rattle.std.specs.List.{between}
@@ -13,13 +14,17 @@ use Rattle.std.proofs.lemmas.List.Edits.{length-between, get_or-between}
 use Rattle.std.proofs.lemmas.List.Sorted.{IsPartitionedBy-leb}
 use Rattle.rules.specs.declared.Band.{Band}
 use Rattle.rules.specs.Lists.{Ascending, latest}
-use Rattle.rules.specs.File.{records, band_at, bands, after_band}
-use Rattle.rules.specs.Charges.{no_band, first_band, band_for}
+use Rattle.rules.specs.File.{records, band_at, bands, after_band, after_bands}
+use Rattle.rules.specs.Charges.{first_band, band_for}
 use Rattle.rules.proofs.Lists.{there, latest_here}
+use Rattle.records.proofs.Positions.{records_wide}
 use Rattle.records.proofs.Ahead.{read_one}
 use Rattle.bands.specs.Bands.{SizesOf}
 
 -- BANDS, each of which has 90 bits
+pub band_within : (file : List ℕ) (at : ℕ) {n k : ℕ} → after_bands at (bands file n at) < 2 ^ 32 → k < n → at + k * 90 < 2 ^ 32
+band_within file at {n} h l = omega (arith, records_wide 90 (band_at file) n at)
+
 module _ (file : List ℕ) (size : ℕ) where
   abbrev key : ℕ → ℕ
   key at = (band_at file at).size
@@ -72,32 +77,33 @@ module _ (file : List ℕ) (size : ℕ) where
   cond_same true x = refl
   cond_same false x = refl
 
-  -- THE SEARCH in the sizes behind the first
-  module _ {n at : ℕ} {sizes : List ℕ} (some : 1 ≤ n) (u : SizesOf file n at sizes) where
-    pub no_size : {b : Band} → b ≡ no_band → size ≡ 0 → b ≡ band_for (bands file n at) size
-    unfolding band_for
-    no_size e z = e ∙ simp (eq-eqb size 0 z)
+  -- THE SEARCH in the sizes behind the first, as a slice has them
+  module _ {at : ℕ} {sizes slice : List ℕ} (is : slice ≡ sizes) (some : 1 ≤ length sizes) (u : SizesOf file (length sizes) at sizes) where
+    abbrev later : List ℕ
+    later = between 1 (length slice) slice
 
-    later_size : (j d : ℕ) → suc j < n → get_or (between 1 n sizes) j d ≡ key (at + suc j * 90)
+    later_many : length later ≡ length sizes - 1
+    later_many = omega (arith, ap length is, length-between slice 1 (length slice) (le_refl _))
+
+    later_size : (j d : ℕ) → suc j < length sizes → get_or later j d ≡ key (at + suc j * 90)
     later_size j d h =
-        get_or-between sizes 1 n j d (omega arith) ∙ there sizes (1 + j) d 0 (omega (arith, u.long)) ∙ u.each (1 + j) (omega arith) ∙ key_as (at + (1 + j) * 90) (at + suc j * 90) (omega arith)
+        get_or-between slice 1 (length slice) j d (omega (arith, ap length is)) ∙ there slice (1 + j) d 0 (omega (arith, ap length is)) ∙ ap (λ xs. get_or xs (1 + j) 0) is
+        ∙ u.each (1 + j) (omega arith) ∙ key_as (at + (1 + j) * 90) (at + suc j * 90) (omega arith)
 
-    later_many : length (between 1 n sizes) ≡ n - 1
-    later_many = length-between sizes 1 n u.long
+    pub later_parted : Ascending 0 (map (λ b. b.size) (bands file (length sizes) at)) → IsPartitionedBy (λ y. leb y size) later
+    later_parted up = IsPartitionedBy-leb (λ y. y) later size (λ i j d h l.
+        omega (arith, later_many, later_size i d (omega (arith, later_many)), later_size j d (omega (arith, later_many)), rising_at 0 (length sizes) at up (suc i) (suc j) (omega arith) (omega (arith, later_many))))
 
-    pub later_parted : Ascending 0 (map (λ b. b.size) (bands file n at)) → IsPartitionedBy (λ y. leb y size) (between 1 n sizes)
-    later_parted up = IsPartitionedBy-leb (λ y. y) (between 1 n sizes) size (λ i j d h l.
-        omega (arith, later_many, later_size i d (omega (arith, later_many)), later_size j d (omega (arith, later_many)), rising_at 0 n at up (suc i) (suc j) (omega arith) (omega (arith, later_many))))
-
-    module _ {k : ℕ} (few : k ≤ length (between 1 n sizes)) where
-      pub later_few : k < n
+    module _ {k : ℕ} (few : k ≤ length later) where
+      pub later_few : k < length sizes
       later_few = omega (arith, later_many)
 
-      pub serves : IsPartitionPoint (λ y. leb y size ≡ true) (λ y. leb y size ≡ false) (between 1 n sizes) k → (size ≡ 0 → ⊥) → band_at file (at + k * 90) ≡ band_for (bands file n at) size
+      pub serves : {place : ℕ} → place ≡ at + k * 90 → IsPartitionPoint (λ y. leb y size ≡ true) (λ y. leb y size ≡ false) later k → (size ≡ 0 → ⊥) → band_at file place ≡ band_for (bands file (length sizes) at) size
       unfolding latest band_for first_band
-      serves point real =
-          sym (served_at (n - 1) at k (omega (arith, later_many))
+      serves e point real =
+          ap (band_at file) e
+          ∙ sym (served_at (length sizes - 1) at k (omega (arith, later_many))
           (λ j l. omega (arith, leb-true _ _ (point.0 j 0 zero-le l), later_size j 0 (omega (arith, later_many))))
           (λ j l r. omega (arith, leb-false _ _ (point.1 j 0 l (omega (arith, later_many))), later_size j 0 (omega (arith, later_many)))))
-          ∙ ap (λ b. served b (bands file (n - 1) (at + 90))) (sym (cond_same (leb (key at) size) (band_at file at)))
-          ∙ sym (ap (λ bs. band_for bs size) (read_one (band_at file) (λ at b. after_band at) n at (omega arith) (refl, refl)) ∙ simp (ne_eqb size 0 real))
+          ∙ ap (λ b. served b (bands file (length sizes - 1) (at + 90))) (sym (cond_same (leb (key at) size) (band_at file at)))
+          ∙ sym (ap (λ bs. band_for bs size) (read_one (band_at file) (λ at b. after_band at) (length sizes) at (omega arith) (refl, refl)) ∙ simp (ne_eqb size 0 real))

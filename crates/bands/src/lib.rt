@@ -44,6 +44,7 @@ impl Bands {
 
     // The band that serves a tariff size, of at least one band. Their sizes ascend, and only the band that serves is read from the file: the last one
     // that is not above the size, or the first one.
+    #[tactic(auto, unfolding(rules::specs::Charges::band_for))]
     pub fn serving(&self, file: &[u8], size: u64) -> Band
         requires le_count { (1 ≤ length self.now.sizes.items) × (after_bands self.now.first.at (bands_in file.now self.now) < 2 ^ 32) × Ascending 0 (map (λ b. b.size) (bands_in file.now self.now)) }
         requires sizes_of { SizesOf file.now (length self.now.sizes.items) self.now.first.at self.now.sizes.items }

@@ -13,7 +13,7 @@ use Rattle.spans.specs.Spans.{clear_span, span_in, begin_in, end_in, Sum, litres
 use Rattle.rules.specs.declared.Transfer.{Transfer}
 use Rattle.cuts.specs.declared.InForce.{InForce}
 use Rattle.cuts.specs.Cuts.{Owns, Held, CutBy}
-use Rattle.cuts.proofs.Walks.{reading_within, reading_under, reading_later}
+use Rattle.providers.proofs.Runs.{reading_within, reading_under, reading_later}
 
 -- no days are cut into no spans
 pub cut_none : {spans : List Span} {owner : ℕ → ℕ} {on : ℕ → Condition} → length spans ≡ 72 → CutBy spans 0 0 owner on

@@ -2,9 +2,9 @@
 use Rattle.std.specs.Prelude.{ℕ, ◌+◌, ◌-◌, ◌^◌, ◌≤◌, ◌<◌, ◌≡◌, cond, min, eqb, List, map, length}
 use Rattle.rules.specs.declared.Condition.{Condition}
 use Rattle.rules.specs.Lists.{Ascending, latest}
-use Rattle.rules.specs.File.{records, after, transfer_at, transfers, condition_at, conditions, after_conditions}
+use Rattle.rules.specs.File.{transfer_at, transfers, condition_at, conditions, after_conditions}
 use Rattle.rules.specs.Charges.{no_condition}
-use Rattle.charged.specs.Charged.{first_entry}
+use Rattle.providers.specs.Runs.{Reading}
 use Rattle.records.specs.Conditions.{condition_of}
 use Rattle.spans.specs.declared.Span.{Span}
 use Rattle.spans.specs.Spans.{span_in, begin_in, end_in, Cut, Sum, sum_in}
@@ -29,32 +29,18 @@ pub record SoundConditions (file : List ℕ) (count at : ℕ) : Type 0 where
   pub ascend : Ascending 0 (map (λ c. c.day) (conditions file count at))
   pub ends : after_conditions at (conditions file count at) < 2 ^ 32
 
--- DATED RECORDS, gone through in the order of the days: of n days from `start` on, those from entry i on have `all` by what is in force and by the
--- records that are ahead; the first of these comes at the entry `end`
-pub record Walk {A B : Type 0} (day : A → ℕ) (value : A → B) (start n : ℕ) (all : ℕ → B) (i : ℕ) (now : B) (ahead : List A) (end : ℕ) : Type 0 where
-  pub ascend : Ascending 0 (map day ahead)
-  pub same : (j : ℕ) → i ≤ j → j < n → all j ≡ latest day value now ahead (start + j)
-  pub ends : end ≡ first_entry day n start ahead
-
--- records of a file, of which the one ahead is read, and where the next one stands is known: so many are left with it
-pub record Reading {A B : Type 0} (here : ℕ → A) (next : ℕ → A → ℕ) (day : A → ℕ) (value : A → B) (start n : ℕ) (all : ℕ → B) (i : ℕ) (now : B) (x : A) (past left end : ℕ) : Type 0 where
-  pub at : ℕ
-  pub read : (x ≡ here at) × (past ≡ next at (here at))
-  pub within : after next at (records here next left at) < 2 ^ 32
-  pub walk : Walk day value start n all i now (records here next left at) end
-
--- records of a width, by how far `record_at` has gone through them: the day of entry j has the record `all j` in force
+-- DATED RECORDS of a width, by how far `record_at` has gone through them: the day of entry j has the record `all j` in force
 abbrev pub Walked : {A R : Type 0} → (ℕ → A) → ℕ → (A → ℕ) → (R → A) → ℕ → ℕ → (ℕ → A) → ℕ → InForce R → Type 0
 Walked here wide day seen start n all i w =
     Reading here (λ at x. at + wide) day (λ x. x) start n all i (seen w.now) (seen w.ahead) w.next.at w.left w.end
 
--- a record in force, and the one ahead as it stands at a position, of so many that are left with it
-pub record ReadAhead {A R : Type 0} (here : ℕ → A) (wide : ℕ) (day : A → ℕ) (seen : R → A) (start n : ℕ) (now : R) (at left : ℕ) (r : InForce R) : Type 0 where
-  pub now : r.now ≡ now
+-- a record that came into force, and the one ahead as it stands at a position, of so many that are left with it
+pub record ReadAhead {A R : Type 0} (here : ℕ → A) (wide : ℕ) (day : A → ℕ) (seen : R → A) (start n : ℕ) (came : R) (at count : ℕ) (r : InForce R) : Type 0 where
+  pub now : r.now ≡ came
   pub ahead : seen r.ahead ≡ here at
   pub next : r.next.at ≡ at + wide
-  pub left : r.left ≡ left
-  pub end : r.end ≡ cond (eqb left 0) n (min (day (here at) - start) n)
+  pub left : r.left ≡ count
+  pub end : r.end ≡ cond (eqb count 0) n (min (day (here at) - start) n)
 
 -- the transfers
 abbrev pub Owns : List ℕ → ℕ → ℕ → (ℕ → Transfer) → ℕ → InForce Transfer → Type 0

@@ -3,8 +3,11 @@ use Prim.Native.Nat.{ℕ, suc, ◌+◌, ◌*◌, ◌/◌, ◌%◌, ◌^◌, ◌-
 use mathlib.Core.Path.{◌≡◌, ap, sym, ◌∙◌}
 use native.Mathlib.Omega.{arith}
 use native.Mathlib.Nat.{pow-suc, div-div-eq-div-mul, div-eq_of_lt, div-le_self, le_of_lt, mul-le-mul_left, mul-le-mul_right, mul-lt-mul_of_pos_right, pow-le-pow_right, le-div_iff_mul-le}
+use native.Mathlib.Decide.{dec_lt}
+use lib.Dec.{eqb}
 use lib.Count.{count_leading_zeros, leading_length}
 use lib.Pow.{pow_pos, pow-add}
+use Rattle.rules.specs.Sums.{only}
 use Rattle.rules.proofs.Shares.{div_mono}
 
 -- a number by which the divisor is no more than n is no more than n's quotient
@@ -18,12 +21,20 @@ halves a k h =
     let p : 2 ^ (k - 1) * 2 ≡ 2 ^ k = sym (pow-suc 2 (k - 1)) ∙ ap (λ j. 2 ^ j) e in
     omega (arith, div-div-eq-div-mul a (2 ^ (k - 1)) 2, ap (λ z. a / z) p)
 
+-- the bit of a number, by what is added where it is set
+only_bit : (x v : ℕ) → only (eqb (x % 2) 1) v ≡ x % 2 * v
+unfolding only
+only_bit x v = elim (dec_lt (x % 2) 1) [
+  | yes l ↦ let e : x % 2 ≡ 0 = omega arith in rw e (omega arith)
+  | no g ↦ let e : x % 2 ≡ 1 = omega arith in rw e (omega arith)
+]
+
 -- the front of a, times b: one bit more, and no more than all bits
 module _ (a b k : ℕ) where
-  pub front_more : (x y : ℕ) → 0 < k → x ≡ a / 2 ^ k * b → y ≡ b → 2 * x + a / 2 ^ (k - 1) % 2 * y ≡ a / 2 ^ (k - 1) * b
+  pub front_more : (x y : ℕ) → 0 < k → x ≡ a / 2 ^ k * b → y ≡ b → 2 * x + only (eqb (a / 2 ^ (k - 1) % 2) 1) y ≡ a / 2 ^ (k - 1) * b
   front_more x y h e f =
       let bit = a / 2 ^ (k - 1) % 2 in
-      omega (arith, ap (λ z. z * b) (halves a k h), ap (λ z. bit * z) f)
+      omega (arith, only_bit (a / 2 ^ (k - 1)) y, ap (λ z. z * b) (halves a k h), ap (λ z. bit * z) f)
 
   pub front_le : a / 2 ^ k * b ≤ a * b
   front_le = mul-le-mul_right b (div-le_self a (2 ^ k))
@@ -44,7 +55,7 @@ product_fits a b ha hb h =
     omega (arith, all, pow-add 2 p.0 q.0, mul-le-mul_left a (le_of_lt q.2), mul-lt-mul_of_pos_right p.2 (pow_pos q.0))
 
 -- a front of a, times b, has no greater quotient than the whole
-pub front_fits : (a b k d m x y : ℕ) → a * b / d < m → 0 < k → x ≡ a / 2 ^ k * b → y ≡ b → (2 * x + a / 2 ^ (k - 1) % 2 * y) / d < m
+pub front_fits : (a b k d m x y : ℕ) → a * b / d < m → 0 < k → x ≡ a / 2 ^ k * b → y ≡ b → (2 * x + only (eqb (a / 2 ^ (k - 1) % 2) 1) y) / d < m
 front_fits a b k d m x y fits g e f =
     let le = div_mono d (front_le a b (k - 1)) in
     omega (arith, ap (λ z. z / d) (front_more a b k x y g e f))

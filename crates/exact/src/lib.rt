@@ -32,6 +32,7 @@ impl Parts {
     }
 
     // Twice a number, and another more where a bit is set.
+    #[tactic(auto, unfolding(rules::specs::Sums::only))]
     fn twice_plus(self, set: bool, more: Parts, d: u64) -> Parts
         requires { (self.rest < d) × (more.rest < d) × ((2 * value self d + only set (value more d)) / d < 2 ^ 64) }
         ensures { Of d (2 * value self d + only set (value more d)) result }

@@ -9,7 +9,6 @@ use native.Mathlib.Omega.{arith}
 use native.Mathlib.Nat.{sub-zero}
 use lib.ListN.{length}
 use borrow.Author.Tests.{le-ltb}
-use Rattle.rules.specs.declared.Breach.{Breach}
 use Rattle.rules.specs.declared.Service.{Service}
 use Rattle.rules.specs.declared.Header.{Header}
 use Rattle.rules.specs.declared.Band.{Band}
@@ -18,7 +17,6 @@ use Rattle.rules.specs.declared.Transfer.{Transfer}
 use Rattle.rules.specs.declared.Condition.{Condition}
 use Rattle.rules.specs.declared.MeterHead.{MeterHead}
 use Rattle.rules.specs.declared.Read.{Read}
-use Rattle.rules.specs.Numbered.{number_of}
 use Rattle.rules.specs.Calendar.{no_day}
 use Rattle.rules.specs.File.{records, after, header_at, band_at, point_head_at, transfer_at, condition_at, meter_head_at, read_at, meter_at, point_at, decode, bands_at, after_band, transfers_from, after_transfer, after_condition, reads_from, after_read, after_meter, after_point}
 use Rattle.records.proofs.Positions.{length_records}
@@ -121,9 +119,6 @@ rest_number b (list kind n i s rest) at = list_number b kind (n - i) at s (rest_
 -- ---- numbers
 
 -- a record's number first, and then what comes after it
-pub positive : (breach : Breach) → 0 < number_of breach
-positive breach = grind arith
-
 pub first_stop : (n last : ℕ) → 0 < n → first_or (n ∷ []) last ≡ n
 unfolding first_or
 first_stop zero last h = absurd (omega arith)

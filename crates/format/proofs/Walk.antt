@@ -15,8 +15,9 @@ use Rattle.rules.specs.File.{header_at, bands_at}
 use Rattle.rules.specs.Refusal.{header_rule, band_rule, point_rule, transfer_rule, condition_rule, meter_rule, read_rule, padding_number, first_or, file_refusal}
 use Rattle.rules.proofs.Fields.{field_lt}
 use Rattle.rules.proofs.Judged.{lacks_none}
+use Rattle.rules.proofs.Numbers.{positive}
 use Rattle.judges.specs.declared.ReadLimits.{ReadLimits}
-use Rattle.format.proofs.Rest.{Kind, band_list, transfer_list, condition_list, read_list, meter_list, point_list, Head, State, head_at, past, rule, Rest, list, padding, onward, opened, rest_number, end, positive, first_stop, first_go, list_done, list_turn, file_turn, padding_turn}
+use Rattle.format.proofs.Rest.{Kind, band_list, transfer_list, condition_list, read_list, meter_list, point_list, Head, State, head_at, past, rule, Rest, list, padding, onward, opened, rest_number, end, first_stop, first_go, list_done, list_turn, file_turn, padding_turn}
 
 -- the refusal of the whole file is that of what is still to come, and the position is within the file
 pub record At (b : List ℕ) (at : ℕ) (rest : Rest) : Type 0 where
@@ -40,9 +41,8 @@ conditions_left h p lowest point k from = list (condition_list h.service) point.
 abbrev pub transfers_left : Header → ℕ → ℕ → PointHead → ℕ → ℕ → ℕ → Rest
 transfers_left h p lowest point t from until = list transfer_list point.transfers t (from, until) (conditions_left h p lowest point 0 0)
 
-abbrev pub reads_left : Header → ℕ → ℕ → ℕ → ℕ → MeterHead → ℕ → ReadLimits → Rest
-reads_left h p lowest meters m meter r limits =
-    list (read_list meter) meter.reads r (limits.least, (limits.latest, limits.before)) (meters_left h p lowest meters (m + 1))
+abbrev pub reads_left : MeterHead → ℕ → ℕ → ReadLimits → Rest → Rest
+reads_left meter reads r limits meters = list (read_list meter) reads r (limits.least, (limits.latest, limits.before)) meters
 
 -- a record without a breach ends within the file
 fits : (b : List ℕ) (kind : Kind) (next : ℕ) (s : State kind) (v : Head kind) → rule b kind next s v ≡ 0 → next ≤ end b

@@ -32,8 +32,8 @@ fn padding(file: &[u8], c: Cursor) -> Result<(), Breach>
     Ok(())
 }
 
-// What a file is refused for: its first breach in file order; and else the file as checked. `least`, `lowest` and `earliest` are the least size, number and day allowed next,
-// `from` and `until` the days that the next transfer may have.
+// What a file is refused for: its first breach in file order; and else the file as checked. `least`, `lowest` and `earliest` are the least size,
+// number and day allowed next, `from` and `until` the days that the next transfer may have.
 pub fn check(file: &[u8]) -> Result<Checked, Breach>
     ensures number { refusal_of result ≡ file_refusal file.now }
     ensures checked { IfOk result (λ checked. checked.bytes.now ≡ file.now) }

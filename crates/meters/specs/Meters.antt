@@ -14,7 +14,7 @@ use Rattle.bands.specs.Bands.{SizesOf, bands_in}
 use Rattle.spans.specs.declared.Figures.{Figures}
 use Rattle.spans.specs.declared.Span.{Span}
 use Rattle.spans.specs.Spans.{end_in, begin_in, Sum, litres_sum, annual_sum, allowance_sum, threshold_sum, sum_in, Kept, figure_of, during, over_span}
-use Rattle.meters.specs.declared.Advance.{Advance}
+use Rattle.meters.specs.declared.advance.Advance.{Advance}
 
 -- what day d of an advance of so many litres carries, at `parts` ten-thousandths (share × return)
 unfoldable pub carried : ℕ → ℕ → ℕ → ℕ → ℕ → ℕ
@@ -28,13 +28,6 @@ spread litres parts first last = during first last (carried litres parts first l
 -- the same of an advance by value
 abbrev pub spread_of : Advance → ℕ → ℕ
 spread_of a = spread a.litres a.parts a.first a.last
-
--- an advance of an accepted file: less than 10 ^ 8 counts of 1,000 litres, over at most 3,660 days
-pub record Spreadable (litres parts first last : ℕ) : Type 0 where
-  pub few : litres ≤ 100000000000
-  pub whole : parts ≤ 10000
-  pub some : first < last
-  pub near : last ≤ first + 3660
 
 -- a meter of its head and its reads
 abbrev pub meter_of : MeterHead → List Read → Meter
@@ -55,7 +48,6 @@ pub record AdvanceOf (m : MeterHead) (earlier later : Read) (a : Advance) : Type
   pub parts : a.parts ≡ m.share * m.returned
   pub first : a.first ≡ earlier.day
   pub last : a.last ≡ later.day
-  pub spreadable : Spreadable a.litres a.parts a.first a.last
 
 -- a figure of the band of a meter × its share, on its meter days
 unfoldable pub weighed : (Band → ℕ) → List Band → Meter → ℕ → ℕ

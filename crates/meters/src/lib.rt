@@ -1,15 +1,18 @@
 #![tactic(auto)]
 // The meters of a supply point, added to its spans: the litres of their advances, and their bands' figures on their meter days. Each record of the
 // point's meters is read once.
-ghost use Rattle.std.specs.Prelude.{◌≡◌, ◌↔◌, IsTrue, ◌+◌, ◌-◌, ◌*◌, ◌≤◌, ◌<◌, ◌^◌, min, []};
+ghost use Rattle.std.specs.Prelude.{◌≡◌, ◌↔◌, IsTrue, ◌+◌, ◌-◌, ◌*◌, ◌≤◌, ◌<◌, ◌^◌, length, min, []};
 ghost use Rattle.rules.specs.File.{reads, meter_at, meters as meters_from, after_reads, after_meter, after_meters};
 ghost use Rattle.rules.specs.Sums.{only};
 ghost use Rattle.rules.specs.Litres.{advance, carried_before, meter_litres};
 ghost use Rattle.rules.specs.Good.{GoodMeterHead, GoodRead, GoodAdvance, GoodMeter};
 ghost use Rattle.bands.specs.Bands.{bands_in};
 ghost use Rattle.spans.specs.Spans.{end_in, Cut, Reached, litres_of, figure_of, during, Grown, Room};
-ghost use Rattle.meters.specs.Meters.{Spreadable, spread_of, meter_of, AdvanceOf, Weights, meter_figure, RoomWith, GrownWith, GoodBands, GoodMeters, SumsClear, MetersIn};
+ghost use Rattle.meters.specs.Meters.{spread_of, meter_of, AdvanceOf, Weights, meter_figure, RoomWith, GrownWith, GoodBands, GoodMeters, SumsClear, MetersIn};
 
+mod advance;
+
+use advance::Advance;
 use bands::Bands;
 use bits::Cursor;
 use charged::Charged;
@@ -17,16 +20,6 @@ use judges::Dial;
 use records::Records;
 use rules::{Band, MeterHead, Read, only};
 use spans::{Figures, Span, add_figures, add_litres, span_with};
-
-// So many litres from a day on, before another, of which `parts` ten-thousandths count: share × return.
-#[derive(Clone, Copy)]
-pub struct Advance {
-    pub litres: u64,
-    pub parts: u64,
-    pub first: u64,
-    pub last: u64,
-    ghost spreadable: { Spreadable litres parts first last },
-}
 
 // What the days of an advance before a day carry. Before the first they carry nothing and before the last day's end all of it, where nothing is
 // divided by the number of days.
@@ -46,6 +39,7 @@ fn carried_before(a: Advance, day: u64) -> u64
 
 // An advance is added to the spans that its days meet: each has what the days before its end carry, less what those before its beginning carry, so
 // that no litre is lost. It begins at a span that does not begin after it, and hands back one that does not begin after its end.
+#[tactic(auto, unfolding(spans::specs::Spans::span_in))]
 fn add_advance(spans: &mut [Span], days: Charged, from: usize, a: Advance) -> usize
     requires cut { Cut spans.old days.count.0 (length spans.old) }
     requires reached_2 { Reached spans.old (length spans.old) «from» (min (a.first - days.from.0) days.count.0) }

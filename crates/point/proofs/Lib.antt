@@ -1,3 +1,4 @@
 pub mod Asks
+pub mod First
 pub mod Made
 pub mod Taking

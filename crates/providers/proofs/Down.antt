@@ -1,5 +1,5 @@
 -- The last number of a list is brought down to its place, by one place after the other. Assumes nothing.
-use Prim.Native.Nat.{ℕ, zero, suc, ◌+◌, ◌≤◌, ◌<◌}
+use Prim.Native.Nat.{ℕ, zero, suc, ◌≤◌, ◌<◌}
 use mathlib.Core.Path.{◌≡◌, refl, ap, sym, ◌∙◌}
 use mathlib.Core.List.{List, [], ◌∷◌, ◌++◌}
 use native.Mathlib.Omega.{arith}
@@ -12,20 +12,6 @@ pub record Down (list out : List ℕ) (at : ℕ) : Type 0 where
   pub within : at < length list
   pub long : length out ≡ length list
   pub down : (front : List ℕ) (last : ℕ) → list ≡ front ++ last ∷ [] → out ≡ insert front at last
-
-pub down_begin : (list : List ℕ) (at : ℕ) → at + 1 ≡ length list → Down list list at
-down_begin list at h =
-    record {
-      within = omega arith;
-      long = refl;
-      down = λ front last same. same ∙ sym (whole front last at (omega (arith, ap length same, length-append front (last ∷ []))));
-    }
-  where
-    whole : (front : List ℕ) (last at : ℕ) → at ≡ length front → insert front at last ≡ front ++ last ∷ []
-    whole [] last zero e = refl
-    whole [] last (suc at) e = absurd (omega arith)
-    whole (x ∷ xs) last zero e = absurd (omega arith)
-    whole (x ∷ xs) last (suc at) e = ap (λ ys. x ∷ ys) (whole xs last at (omega arith))
 
 -- two neighbours in each other's place
 neighbours : (front : List ℕ) (last k : ℕ) → k < length front →

@@ -1,5 +1,5 @@
 -- A point's providers, put into a list by the runs of its transfers. Assumes nothing.
-use Prim.Native.Nat.{ℕ, ◌+◌, ◌-◌, ◌*◌, ◌^◌, ◌≤◌, ◌<◌}
+use Prim.Native.Nat.{ℕ, ◌+◌, ◌-◌, ◌^◌, ◌≤◌, ◌<◌}
 use mathlib.Core.Path.{◌≡◌, refl, ap, ap₂, sym, ◌∙◌, subst}
 use mathlib.Core.List.{List, [], ◌∷◌}
 use native.Mathlib.Omega.{arith}
@@ -9,12 +9,12 @@ use Rattle.rules.specs.declared.Service.TheVariants.{Water}
 use Rattle.rules.specs.declared.Header.{Header}
 use Rattle.rules.specs.declared.PointHead.{PointHead}
 use Rattle.rules.specs.declared.Transfer.{Transfer}
-use Rattle.rules.specs.File.{Tariff, Supply, Point, records, header_at, bands_at, points as points_from, point_head_at, point_at, transfers, transfers_from, after_point, decode}
+use Rattle.rules.specs.File.{Tariff, Supply, Point, records, header_at, bands_at, bands, after_bands, points as points_from, point_head_at, point_at, transfers, transfers_from, after_point, decode}
 use Rattle.rules.specs.Charges.{charged_from, charged_count}
 use Rattle.rules.specs.Settlement.{insert_days, providers_and, providers_of}
 use Rattle.rules.specs.Good.{FirstBy, GoodPoint, Good}
 use Rattle.records.proofs.Skip.{transfers_small}
-use Rattle.records.proofs.Walk.{PointsLeft, points_one, points_next, points_start, file_points, year_from_lem, year_to_lem}
+use Rattle.records.proofs.Walk.{PointsLeft, points_one, points_next, first_left, first_points}
 use Rattle.charged.specs.declared.Charged.{Charged}
 use Rattle.charged.specs.Charged.{ChargedOf}
 use Rattle.providers.specs.Listed.{point_providers}
@@ -82,20 +82,16 @@ points_longer tariff ps (point ∷ points) =
 module _ (b : List ℕ) where
   pub record Listing (year left at : ℕ) (list : List ℕ) : Type 0 where
     pub is : (decode b).tariff.year ≡ year
-    pub from : 2020 ≤ year
-    pub to : year ≤ 2098
     pub points : PointsLeft b left at
     pub whole : providers_and (decode b).tariff list (points_from b left at) ≡ providers_of (decode b).tariff (decode b).points
 
-  pub listing_start : Good b → {head : Header} {start : ℕ} → (head ≡ header_at b) × (start ≡ bands_at) → Listing head.year head.points (start + head.bands * 90) []
+  pub listing_start : Good b → {head : Header} {at : ℕ} → head ≡ header_at b → at ≡ after_bands bands_at (bands b head.bands bands_at) → Listing head.year head.points at []
   unfolding providers_of decode
-  listing_start g {head} e =
+  listing_start g e f =
       record {
-        is = ap (λ (h : Header). h.year) (sym e.0);
-        from = year_from_lem b g e;
-        to = year_to_lem b g e;
-        points = points_start b g e;
-        whole = ap (providers_and (decode b).tariff []) (file_points b g e);
+        is = ap (λ (h : Header). h.year) (sym e);
+        points = first_left b g e f;
+        whole = ap (providers_and (decode b).tariff []) (first_points b g e f);
       }
 
   module _ {year left at : ℕ} {list : List ℕ} (s : Listing year left at list) where
@@ -111,8 +107,6 @@ module _ (b : List ℕ) where
           rw fewer
           record {
             is = s.is;
-            from = s.from;
-            to = s.to;
             points = subst (PointsLeft b (left - 1)) (sym ends) (points_next b s.points h);
             whole = ap₂ (λ ps n. providers_and (decode b).tariff ps (points_from b (left - 1) n)) put ends ∙ one;
           }

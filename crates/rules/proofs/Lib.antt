@@ -4,6 +4,7 @@ pub mod Sums
 pub mod Rows
 pub mod Providers
 pub mod Fields
+pub mod Exits
 pub mod Placed
 pub mod Judged
 pub mod Breaches

@@ -119,22 +119,6 @@ module _ {spans : List Span} {n m : ℕ} (cut : Cut spans n m) where
     | no ge ↦ let e : suc s ≡ m = omega arith in omega (arith, subst (λ t. end_in spans s ≤ begin_in spans t) e (let p : end_in spans s ≤ begin_in spans (suc s) = span_later s (suc s) (omega arith) (omega arith) in p), cut.all)
   ]
 
-  -- a place that is reached before the last day has a span
-  pub reached_span : {s i : ℕ} → Reached spans m s i → i < n → s < m
-  reached_span {s} {i} r h = elim (dec_lt s m) [
-    | yes lt ↦ lt
-    | no ge ↦ let e : s ≡ m = omega (arith, r.within) in absurd (omega (arith, r.begun, cut.all, ap (begin_in spans) e))
-  ]
-
-  pub reached_first : (i : ℕ) → Reached spans m 0 i
-  unfolding begin_in
-  reached_first i = record { within = zero-le; begun = zero-le }
-
-  -- the next one begins where it ends
-  pub reached_next : {s i : ℕ} → s < m → end_in spans s ≤ i → Reached spans m (s + 1) i
-  unfolding begin_in
-  reached_next {s} {i} h k = record { within = omega arith; begun = subst (λ t. begin_in spans t ≤ i) {x = suc s} {y = s + 1} (omega arith) k }
-
   -- THE SUM OVER A SPAN of days up to an entry of it, and then on to another
   module _ {s i : ℕ} (holds : Holds spans m i s) {stop : ℕ} (forward : i ≤ stop) (within : stop ≤ end_in spans s) (f : ℕ → ℕ) where
     span_piece : (t : ℕ) → t < m → (t < s) ⊎ ((t ≡ s) ⊎ (s < t)) → over_span spans t (during i stop f) ≡ only (eqb t s) (over_days i (stop - i) f)
@@ -153,6 +137,18 @@ module _ {spans : List Span} {n m : ℕ} (cut : Cut spans n m) where
         days_eq _ _ (λ d k l. during_split from i stop f d a forward)
         ∙ days_add _ _ (during from i f) (during i stop f)
         ∙ ap (λ x. over_span spans t (during from i f) + x) (span_piece t h (three t s))
+
+-- A SPAN IS LOOKED FOR from a place that is reached
+pub reached_first : (spans : List Span) (m i : ℕ) → Reached spans m 0 i
+unfolding begin_in
+reached_first spans m i = record { within = zero-le; begun = zero-le }
+
+-- the next one begins where it ends
+pub reached_next : {spans : List Span} {m s i : ℕ} → Reached spans m s i → i < begin_in spans m → end_in spans s ≤ i → Reached spans m (s + 1) i
+unfolding begin_in
+reached_next {spans} {m} {s} {i} r h k =
+    let within : s < m = grind arith in
+    record { within = omega arith; begun = subst (λ t. begin_in spans t ≤ i) {x = suc s} {y = s + 1} (omega arith) k }
 
 -- equal functions have equal sums, and smaller ones smaller
 pub over_eq : (spans : List Span) (s : ℕ) {f g : ℕ → ℕ} → ((i : ℕ) → begin_in spans s ≤ i → i < end_in spans s → f i ≡ g i) → over_span spans s f ≡ over_span spans s g
@@ -175,13 +171,6 @@ over_add spans s f g = days_add _ _ f g
 pub over_is : (spans : List Span) (s : ℕ) (f : ℕ → ℕ) → over_span spans s f ≡ over_days (begin_in spans s) (end_in spans s - begin_in spans s) f
 unfolding over_span
 over_is spans s f = refl
-
--- THE LOOP over the spans that some days meet: those before an entry are added
-pub record Adding (before after : List Span) (n m from s i : ℕ) (f : Sum → ℕ → ℕ) : Type 0 where
-  pub cut : Cut before n m
-  pub grown : Grown before after m (λ q. during from i (f q))
-  pub begun : from ≤ i
-  pub reached : Reached before m s i
 
 -- WHAT STANDS OF A SPAN BESIDES ITS SUMS stays
 pub kept_all : {spans : List Span} → Kept spans spans
@@ -259,67 +248,70 @@ module _ {before after : List Span} {m : ℕ} {rest whole : Sum → ℕ → ℕ}
   pub rest_none : ((q : Sum) (i : ℕ) → rest q i ≡ 0) → Grown before after m whole
   rest_none z = record { kept = u.kept; sums = λ q s k. omega (arith, u.sums q s k, over_none before s (z q)) }
 
-module _ {before : List Span} {n m : ℕ} (cut : Cut before n m) (from : ℕ) (f : Sum → ℕ → ℕ) where
-  pub adding_none : {s : ℕ} → Reached before m s from → Adding before before n m from s from f
-  adding_none r = record { cut = cut; grown = grown_none (λ q e. during_none from from (f q) e (le_refl from)); begun = le_refl from; reached = r }
+-- THE LOOP over the spans that some days meet, from an entry on, before another: those before entry i are added
+pub record Adding (before after : List Span) (from to s i : ℕ) (f : Sum → ℕ → ℕ) : Type 0 where
+  pub grown : Grown before after (length before) (λ q. during from i (f q))
+  pub begun : from ≤ i
+  pub within : i ≤ max from to
+  pub reached : Reached before (length before) s i
 
-module _ {before after : List Span} {n m from s i : ℕ} {f : Sum → ℕ → ℕ} (u : Adding before after n m from s i f) where
-  -- what the search for the next span asks
-  pub adding_asks : i < n → Cut after n m × Reached after m s i × (i < n)
-  adding_asks h = (
-    cut_same u.grown.kept u.cut,
-    reached_same u.grown.kept u.reached,
-    h,
-  )
+pub adding_none : {before : List Span} {from s : ℕ} (to : ℕ) (f : Sum → ℕ → ℕ) → Reached before (length before) s from → Adding before before from to s from f
+adding_none {from = from} to f r = record { grown = grown_none (λ q e. during_none from from (f q) e (le_refl from)); begun = le_refl from; within = omega arith; reached = r }
 
-  module _ {t : ℕ} (holds : Holds after m i t) where
-    held : Holds before m i t
-    held =
-        record {
-          within = holds.within;
-          begun = omega (arith, holds.begun, begin_same u.grown.kept t);
-          lasts = omega (arith, holds.lasts, end_same u.grown.kept t);
-        }
+-- it goes on from an entry to the end of the span that holds it, or to the last
+pub step_on : {spans : List Span} {m i t to stop : ℕ} → Holds spans m i t → stop ≡ min (end_in spans t) to → i < to → (i < stop) × (stop ≤ to)
+step_on holds stops h = (omega (arith, holds.lasts), omega arith)
 
-    pub held_room : t < length after
-    held_room = omega (arith, holds.within, u.cut.room, u.grown.kept.long)
+module _ {before after : List Span} {from to s i : ℕ} {f : Sum → ℕ → ℕ} (u : Adding before after from to s i f) where
+  module _ {n : ℕ} (cut : Cut before n (length before)) (h : i < to) where
+    -- what the search for the next span asks
+    pub adding_asks : to ≤ n → Reached after (length after) s i × (i < begin_in after (length after))
+    adding_asks top = (
+      record { within = omega (arith, u.reached.within, u.grown.kept.long); begun = omega (arith, u.reached.begun, begin_same u.grown.kept s) },
+      omega (arith, begin_same u.grown.kept (length after), ap (begin_in before) u.grown.kept.long, cut.all),
+    )
 
-    module _ {stop : ℕ} (forward : i ≤ stop) (within : stop ≤ end_in after t) where
-      within_before : stop ≤ end_in before t
-      within_before = omega (arith, within, end_same u.grown.kept t)
-
-      step : (q : Sum) (k : ℕ) → k < m → over_span before k (during from stop (f q)) ≡ over_span before k (during from i (f q)) + only (eqb k t) (over_days i (stop - i) (f q))
-      step q k h = span_step u.cut held forward within_before (f q) from k u.begun h
-
-      during_less : (to : ℕ) → stop ≤ to → (q : Sum) (e : ℕ) → during from stop (f q) e ≤ during from to (f q) e
-      during_less to h q e = omega (arith, during_split from stop to (f q) e (omega (arith, u.begun)) h)
-
-      pub adding_room : {to : ℕ} → Room before m (λ q. during from to (f q)) → stop ≤ to → (x : Sum → ℕ) → ((q : Sum) → x q ≡ over_days i (stop - i) (f q)) → RoomAt after t x
-      unfolding only
-      adding_room {to} r h x e =
+    module _ {t stop : ℕ} (holds : Holds after (length after) i t) (stops : stop ≡ min (end_in after t) to) {x : Sum → ℕ} (piece : (q : Sum) → x q ≡ over_days i (stop - i) (f q)) where
+      held : Holds before (length before) i t
+      held =
           record {
-            within = held_room;
-            fits = λ q.
-                let here : only (eqb t t) (over_days i (stop - i) (f q)) ≡ x q = simp (eq-eqb t t refl) (sym (e q)) in
-                omega (arith, u.grown.sums q t holds.within, step q t holds.within, here, over_le before t _ _ (during_less to h q), r.fits q t holds.within);
+            within = omega (arith, holds.within, u.grown.kept.long);
+            begun = omega (arith, holds.begun, begin_same u.grown.kept t);
+            lasts = omega (arith, holds.lasts, end_same u.grown.kept t);
           }
 
-      pub adding_more : {next : List Span} (x : Sum → ℕ) → ((q : Sum) → x q ≡ over_days i (stop - i) (f q)) → SumsAdded after next t x → Adding before next n m from t stop f
-      adding_more {next} x e v =
+      step : (q : Sum) (k : ℕ) → k < length before → over_span before k (during from stop (f q)) ≡ over_span before k (during from i (f q)) + only (eqb k t) (x q)
+      step q k h' = span_step cut held {stop = stop} (omega (arith, holds.lasts)) (omega (arith, end_same u.grown.kept t)) (f q) from k u.begun h' ∙ rw (piece q) refl
+
+      during_less : (q : Sum) (e : ℕ) → during from stop (f q) e ≤ during from to (f q) e
+      during_less q e = omega (arith, during_split from stop to (f q) e (omega (arith, u.begun, holds.lasts)) (omega arith))
+
+      pub adding_room : Room before (length before) (λ q. during from to (f q)) → RoomAt after t x
+      unfolding only
+      adding_room r =
           record {
-            cut = u.cut;
+            within = holds.within;
+            fits = λ q.
+                let here : only (eqb t t) (x q) ≡ x q = simp (eq-eqb t t refl) in
+                omega (arith, u.grown.sums q t held.within, step q t held.within, here, over_le before t _ _ (during_less q), r.fits q t held.within);
+          }
+
+      pub adding_more : {next : List Span} → SumsAdded after next t x → Adding before next from to t stop f
+      adding_more v =
+          record {
             grown =
                 record {
                   kept = kept_both u.grown.kept v.kept;
-                  sums = λ q k h. omega (arith, v.sums q k, ap (only (eqb k t)) (e q), u.grown.sums q k h, step q k h);
+                  sums = λ q k h'. omega (arith, v.sums q k, u.grown.sums q k h', step q k h');
                 };
-            begun = omega (arith, u.begun);
-            reached = record { within = omega (arith, holds.within); begun = omega (arith, held.begun) };
+            begun = omega (arith, u.begun, holds.lasts);
+            within = omega arith;
+            reached = record { within = omega (arith, held.within); begun = omega (arith, held.begun, holds.lasts) };
           }
 
   -- at the end, also where there was no day
-  pub adding_done : {to : ℕ} → to ≤ i → i ≤ max from to → Grown before after m (λ q. during from to (f q))
-  adding_done {to} a b = grown_as (λ q e. elim (dec_lt from to) [
-    | yes lt ↦ ap (λ k. during from k (f q) e) {x = i} {y = to} (omega arith)
-    | no ge ↦ during_none from i (f q) e (omega (arith, u.begun)) ∙ sym (during_none from to (f q) e (omega arith))
+  pub adding_done : to ≤ i → Grown before after (length before) (λ q. during from to (f q))
+  adding_done h = grown_as (λ q e. elim (dec_lt from to) [
+    | yes lt ↦ ap (λ k. during from k (f q) e) {x = i} {y = to} (omega (arith, u.within))
+    | no ge ↦ during_none from i (f q) e (omega (arith, u.within)) ∙ sym (during_none from to (f q) e (omega arith))
   ]) u.grown

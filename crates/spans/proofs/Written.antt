@@ -13,7 +13,7 @@ use Rattle.rules.proofs.Lists.{three}
 use Rattle.records.specs.declared.Groups.{Groups}
 use Rattle.spans.specs.declared.Figures.{Figures}
 use Rattle.spans.specs.declared.Span.{Span}
-use Rattle.spans.specs.Spans.{Sums, Times, clear_span, span_in, Sum, litres_sum, annual_sum, allowance_sum, threshold_sum, sum_of, sum_in, SpanSet, SumsAdded, litres_of, figure_of}
+use Rattle.spans.specs.Spans.{Sums, Times, span_in, Sum, litres_sum, annual_sum, allowance_sum, threshold_sum, sum_of, sum_in, SpanSet, SumsAdded, litres_of, figure_of}
 
 module _ (spans : List Span) (s : ℕ) (span : Span) where
   written_here : s < length spans → span_in (set spans s span) s ≡ span
@@ -24,13 +24,11 @@ module _ (spans : List Span) (s : ℕ) (span : Span) where
   unfolding span_in
   written_else t e = get_or-set_other spans s t span _ (λ q. e (omega arith))
 
-pub span_set : (spans : List Span) (s end provider : ℕ) (groups : Groups) → s < length spans → SpanSet spans (set spans s (clear_span end provider groups)) s end provider groups
-span_set spans s end provider groups within =
-    record {
-      long = length-set spans s (clear_span end provider groups);
-      here = written_here spans s (clear_span end provider groups) within;
-      others = written_else spans s (clear_span end provider groups);
-    }
+pub span_set : (spans : List Span) (s end provider : ℕ) (groups : Groups) {litres : ℕ} {figures : Figures} → s < length spans → litres ≡ 0 → (figures.annual ≡ 0) × ((figures.allowance ≡ 0) × (figures.threshold ≡ 0)) →
+    SpanSet spans (set spans s (record { end = end; provider = provider; groups = groups; litres = litres; figures = figures })) s end provider groups
+span_set spans s end provider groups {litres} {figures} within l f =
+    let span : Span = record { end = end; provider = provider; groups = groups; litres = litres; figures = record { annual = figures.annual; allowance = figures.allowance; threshold = figures.threshold } } in
+    record { long = length-set spans s span; here = written_here spans s span within ∙ rw (l, f.0, f.1.0, f.1.1) refl; others = written_else spans s span }
 
 -- A SPAN WHOSE SUMS BECOME MORE, and of which all else stays
 module _ (spans : List Span) (s : ℕ) (span : Span) (x : Sum → ℕ) (within : s < length spans) (ends : span.end ≡ (span_in spans s).end)

@@ -3,7 +3,7 @@
 // slice, each with the entry before which it ends, its provider, its condition by groups, and four sums over its days. What some days have is added
 // to the spans that they meet, so that nothing is kept or done for each day.
 ghost use Rattle.std.specs.Prelude.{◌≡◌, ℕ, ◌+◌, ◌*◌, ◌<◌, ◌≤◌, ◌^◌, length};
-ghost use Rattle.spans.specs.Spans.{Sums, Times, Cut, Reached, Holds, SpanSet, SumsAdded, figure_of, litres_of, RoomAt, during, Grown, Room};
+ghost use Rattle.spans.specs.Spans.{Sums, Times, begin_in, Cut, Reached, Holds, SpanSet, SumsAdded, figure_of, litres_of, RoomAt, during, Grown, Room};
 
 use records::Groups;
 use std::ops::{Add, Mul};
@@ -77,8 +77,9 @@ pub fn set_span(spans: &mut [Span], s: usize, end: usize, provider: u64, groups:
 }
 
 // The span that holds the day of an entry, from one on that does not begin after it.
+#[tactic(auto, unfolding(crate::specs::Spans::span_in))]
 pub fn span_with(spans: &[Span], from: usize, i: usize) -> usize
-    requires { (n : ℕ) × Cut spans.now n (length spans.now) × Reached spans.now (length spans.now) «from» i × (i < n) }
+    requires { Reached spans.now (length spans.now) «from» i × (i < begin_in spans.now (length spans.now)) }
     ensures { Holds spans.now (length spans.now) i result }
 {
     let mut s = from;
@@ -107,6 +108,7 @@ fn add_each(spans: &mut [Span], s: usize, days: u64, each: Figures)
 }
 
 // The days of the entries from one on, before another, have more of meters.
+#[tactic(auto, unfolding(crate::specs::Spans::span_in))]
 pub fn add_figures(spans: &mut [Span], from: usize, to: usize, each: Figures)
     requires cut { (n : ℕ) × Cut spans.old n (length spans.old) × (to ≤ n) }
     requires room { Room spans.old (length spans.old) (λ q. during «from» to (λ i. figure_of each q)) }

@@ -1,19 +1,26 @@
 -- `cuts::record_at` meets its contract: the records ahead are taken as long as they have come by entry i. Assumes nothing.
 use native.Mathlib.Omega.{arith}
-use Rattle.cuts.proofs.Walks.{reading_some, reading_small, passed_none, passed_more, passed_fewer}
+use Rattle.providers.proofs.Runs.{reading_small}
+use Rattle.cuts.proofs.Walks.{reading_some, walked_next, passed_none, passed_more, passed_fewer}
 use Rattle.cuts.proofs.record_at.Goals as goal
 
 pub loop-w-init : goal.loop-w-init
 loop-w-init g c = passed_none
 
-pub next_record-w-requires : goal.next_record-w-requires
-next_record-w-requires g c = let u = c.loop-w.invariant.still _ c.requires.0.1 in let k = reading_some u c.loop-w-test.true c.requires.1 in (k, reading_small u (λ at t. omega arith) k)
+pub overflow_sub-w : goal.overflow_sub-w
+overflow_sub-w g c = omega (arith, reading_some (c.loop-w.invariant.still _ c.requires.0.1) c.loop-w-test.true c.requires.1)
+
+pub in_force-w-requires : goal.in_force-w-requires
+in_force-w-requires g c = let u = c.loop-w.invariant.still _ c.requires.0.1 in reading_small u (λ at t. omega arith) (reading_some u c.loop-w-test.true c.requires.1)
 
 pub loop-w-smaller : goal.loop-w-smaller
-loop-w-smaller g c = let u = c.loop-w.invariant.still _ c.requires.0.1 in omega (arith, c.next_record-w.ensures.1, reading_some u c.loop-w-test.true c.requires.1)
+loop-w-smaller g c = omega (arith, c.in_force-w.ensures.left, reading_some (c.loop-w.invariant.still _ c.requires.0.1) c.loop-w-test.true c.requires.1)
 
 pub loop-w-preserved : goal.loop-w-preserved
-loop-w-preserved g c = let u = c.loop-w.invariant in passed_more u (λ all v. c.next_record-w.ensures.0 all _ v c.loop-w-test.true) (reading_some (u.still _ c.requires.0.1) c.loop-w-test.true c.requires.1) c.next_record-w.ensures.1
+loop-w-preserved g c =
+    let u = c.loop-w.invariant in
+    let some = reading_some (u.still _ c.requires.0.1) c.loop-w-test.true c.requires.1 in
+    passed_more u (λ all v. walked_next v some c.loop-w-test.true c.in_force-w.ensures) some c.in_force-w.ensures.left
 
 pub returns : goal.returns
 returns g c = let u = c.loop-w.invariant in record { now = (u.still, omega (arith, c.loop-w-test.false)); fewer = (u.fewer, passed_fewer u (λ w. w.end) (omega (arith, c.loop-w-test.false))) }

@@ -15,7 +15,7 @@ twice_plus-p-requires c =
     let b = c.args.b in
     let d = c.args.d in
     let l = c.loop-k in
-    (l.invariant.small, mod-lt b c.requires.0, mod-lt _ (omega arith), front_fits a b l.k d (2 ^ 64) (value l.p d) (b / d * d + b % d) c.requires.1 c.loop-k-test.true l.invariant.is (div-add-mod' b d))
+    (l.invariant.small, mod-lt b c.requires.0, front_fits a b l.k d (2 ^ 64) (value l.p d) (b / d * d + b % d) c.requires.1 c.loop-k-test.true l.invariant.is (div-add-mod' b d))
 
 pub loop-k-preserved : goal.loop-k-preserved
 loop-k-preserved c =

@@ -1,17 +1,17 @@
 -- `check` meets its contract. Each loop's invariant says that the refusal of the whole file is that of what is still to come. Assumes nothing.
-use mathlib.Core.Path.{sym}
+use mathlib.Core.Path.{refl, sym}
 use native.Mathlib.Omega.{arith}
-use Rattle.std.proofs.lemmas.Result.{err_from_is_err_and}
+use Rattle.rules.proofs.Exits.{handed_on}
 use Rattle.rules.proofs.Judged.{meter_digits}
 use Rattle.format.proofs.Walk.{has_room, stops, goes_on, ends, too_long, header_stops, opens, file_ends}
 use Rattle.format.proofs.check.Goals as goal
 
-pub returns-then-file-gt-MOST_BYTES : goal.returns-then-file-gt-MOST_BYTES
-returns-then-file-gt-MOST_BYTES c = too_long _ c.if-file-gt-MOST_BYTES.true
+pub returns-then-file-gt-MOST_BYTES-clause-number : goal.returns-then-file-gt-MOST_BYTES-clause-number
+returns-then-file-gt-MOST_BYTES-clause-number c = too_long _ c.if-file-gt-MOST_BYTES.true
 
-pub returns-in_err-header : goal.returns-in_err-header
-returns-in_err-header c = let p = err_from_is_err_and c.from_residual.result c.from_residual.ensures.1 in
-    rw (p.1, p.2) (header_stops _ c.if-file-gt-MOST_BYTES.false c.header-header.ensures _ c.in_err-header.ensures)
+pub returns-in_err-header-clause-number : goal.returns-in_err-header-clause-number
+returns-in_err-header-clause-number c = rw (handed_on c.from_residual.ensures.1)
+    (header_stops _ c.if-file-gt-MOST_BYTES.false c.header-header.ensures _ c.in_err-header.ensures)
 
 pub bands-init : goal.bands-init
 bands-init c = opens _ c.if-file-gt-MOST_BYTES.false c.header-header.ensures c.in_ok-header.ensures
@@ -49,11 +49,11 @@ conditions-preserved c = goes_on c.conditions.invariant c.conditions-test.true c
 pub meters-init : goal.meters-init
 meters-init c = ends c.conditions.invariant c.conditions-test.false
 
-pub dial_values-dial-requires : goal.dial_values-dial-requires
-dial_values-dial-requires c = let digits = meter_digits _ _ _ _ (sym c.in_default-meter.ensures) in omega (arith, digits.0, digits.1)
+pub new-dial-requires : goal.new-dial-requires
+new-dial-requires c = let digits = meter_digits _ _ _ _ (sym c.in_default-meter.ensures) in omega (arith, digits.0, digits.1)
 
 pub reads-init : goal.reads-init
-reads-init c = goes_on c.meters.invariant c.meters-test.true c.meter-meter.ensures c.in_default-meter.ensures
+reads-init c = rw c.new-dial.ensures (goes_on c.meters.invariant c.meters-test.true c.meter-meter.ensures c.in_default-meter.ensures)
 
 pub overflow_add-limits : goal.overflow_add-limits
 overflow_add-limits c = omega (arith, has_room c.reads.invariant c.reads-test.true c.read-read.ensures)
@@ -70,23 +70,31 @@ meters-preserved c = ends c.reads.invariant c.reads-test.false
 pub points-preserved : goal.points-preserved
 points-preserved c = ends c.meters.invariant c.meters-test.false
 
-pub returns-in-Err : goal.returns-in-Err
-returns-in-Err c = stops c.bands.invariant c.bands-test.true c.band-band.ensures c.in-Err.breach c.in-Err.ensures
+pub returns-in-Err-clause-number : goal.returns-in-Err-clause-number
+returns-in-Err-clause-number c = stops c.bands.invariant c.bands-test.true c.band-band.ensures c.in-Err.breach c.in-Err.ensures
 
-pub returns-in-Err-point : goal.returns-in-Err-point
-returns-in-Err-point c = stops c.points.invariant c.points-test.true c.point-point.ensures c.in-Err-point.breach c.in-Err-point.ensures
+pub returns-in-Err-point-clause-number : goal.returns-in-Err-point-clause-number
+returns-in-Err-point-clause-number c = stops c.points.invariant c.points-test.true c.point-point.ensures c.in-Err-point.breach c.in-Err-point.ensures
 
-pub returns-in-Err-transfer : goal.returns-in-Err-transfer
-returns-in-Err-transfer c = stops c.transfers.invariant c.transfers-test.true c.transfer-transfer.ensures c.in-Err-transfer.breach c.in-Err-transfer.ensures
+pub returns-in-Err-transfer-clause-number : goal.returns-in-Err-transfer-clause-number
+returns-in-Err-transfer-clause-number c = stops c.transfers.invariant c.transfers-test.true c.transfer-transfer.ensures c.in-Err-transfer.breach c.in-Err-transfer.ensures
 
-pub returns-in-Err-condition : goal.returns-in-Err-condition
-returns-in-Err-condition c = stops c.conditions.invariant c.conditions-test.true c.condition-condition.ensures c.in-Err-condition.breach c.in-Err-condition.ensures
+pub returns-in-Err-condition-clause-number : goal.returns-in-Err-condition-clause-number
+returns-in-Err-condition-clause-number c = stops c.conditions.invariant c.conditions-test.true c.condition-condition.ensures c.in-Err-condition.breach c.in-Err-condition.ensures
 
-pub returns-in-Err-meter : goal.returns-in-Err-meter
-returns-in-Err-meter c = stops c.meters.invariant c.meters-test.true c.meter-meter.ensures c.in-Err-meter.breach c.in-Err-meter.ensures
+pub returns-in-Err-meter-clause-number : goal.returns-in-Err-meter-clause-number
+returns-in-Err-meter-clause-number c = stops c.meters.invariant c.meters-test.true c.meter-meter.ensures c.in-Err-meter.breach c.in-Err-meter.ensures
 
-pub returns-in-Err-read : goal.returns-in-Err-read
-returns-in-Err-read c = stops c.reads.invariant c.reads-test.true c.read-read.ensures c.in-Err-read.breach c.in-Err-read.ensures
+pub returns-in-Err-read-clause-number : goal.returns-in-Err-read-clause-number
+returns-in-Err-read-clause-number c = stops c.reads.invariant c.reads-test.true c.read-read.ensures c.in-Err-read.breach c.in-Err-read.ensures
 
-pub returns-after-points : goal.returns-after-points
-returns-after-points c = file_ends (ends c.points.invariant c.points-test.false) c.padding.ensures
+pub returns-in_err-padding-clause-number : goal.returns-in_err-padding-clause-number
+returns-in_err-padding-clause-number c = rw (handed_on c.from_residual-in_err-padding.ensures.1) (file_ends (ends c.points.invariant c.points-test.false) c.in_err-padding.ensures)
+
+pub invariant_of-result : goal.invariant_of-result
+invariant_of-result c =
+    record {
+      sound = sym (file_ends (ends c.points.invariant c.points-test.false) c.in_ok-padding.ensures);
+      header = c.header-header.ensures.0;
+      listed = (c.header-header.ensures.1, refl);
+    }

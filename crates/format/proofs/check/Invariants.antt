@@ -1,5 +1,6 @@
 -- What holds at the head of each loop of `check`. `counter` counts the innermost loop's records and `end` is how many it has; `counter-2` and
 -- `end-2` are those of the loop around it, and `counter-3` those of the loop around both.
+use Prim.Native.Nat.{◌+◌}
 use Rattle.format.proofs.Walk.{At, bands_left, points_left, transfers_left, conditions_left, meters_left, reads_left}
 use Rattle.format.proofs.check.Given as goal
 
@@ -13,7 +14,7 @@ abbrev pub invariant-conditions : goal.invariant-conditions
 invariant-conditions l = At l.file l.c.at (conditions_left l.head l.counter-2 l.lowest l.point.value l.counter l.earliest)
 
 abbrev pub invariant-reads : goal.invariant-reads
-invariant-reads l = At l.file l.c.at (reads_left l.head l.counter-3 l.lowest l.end-2 l.counter-2 l.meter.value l.counter l.limits)
+invariant-reads l = At l.file l.c.at (reads_left l.dial.meter l.end l.counter l.limits (meters_left l.head l.counter-3 l.lowest l.end-2 (l.counter-2 + 1)))
 
 abbrev pub invariant-meters : goal.invariant-meters
 invariant-meters l = At l.file l.c.at (meters_left l.head l.counter-2 l.lowest l.end l.counter)

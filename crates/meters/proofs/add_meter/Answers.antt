@@ -18,17 +18,17 @@ figures_of-each-requires c = let s = c.args in weights_fit s.file.now s.c.at c.m
 pub add_reads-next-requires : goal.add_reads-next-requires
 add_reads-next-requires c =
     let s = c.args in
-    let all = meter_asks s.file.now s.c.at c.meter-taken.ensures (bands_in s.file.now s.bands.now) c.serving-band.ensures c.figures_of-each.ensures s.days.start s.every c.requires.good_meter.1 c.requires.room_with c.requires.at_bound c.requires.good_meter.0 in
+    let all = meter_asks s.file.now s.c.at c.meter-taken.ensures (bands_in s.file.now s.bands.now) c.serving-band.ensures c.figures_of-each.ensures s.days.from.0 s.every c.requires.good_meter.1 c.requires.room_with c.requires.at_bound c.requires.good_meter.0 in
     record { at_bound = all.0; good_meter = all.1.0; room = all.1.1 }
 
 pub add_during-more-requires : goal.add_during-more-requires
 add_during-more-requires c =
     let s = c.args in
-    let both = during_asks s.file.now s.c.at c.meter-taken.ensures (bands_in s.file.now s.bands.now) c.serving-band.ensures c.figures_of-each.ensures s.days.start s.every c.requires.good_meter.1 c.requires.room_with (c.add_reads-next.ensures.ends, c.add_reads-next.ensures.grown) in
+    let both = during_asks s.file.now s.c.at c.meter-taken.ensures (bands_in s.file.now s.bands.now) c.serving-band.ensures c.figures_of-each.ensures s.days.from.0 s.every c.requires.good_meter.1 c.requires.room_with (c.add_reads-next.ensures.ends, c.add_reads-next.ensures.grown) in
     record { cut = both.0; room_with = both.1 }
 
 pub returns : goal.returns
 returns c =
     let s = c.args in
-    let both = meter_added s.file.now s.c.at c.meter-taken.ensures (bands_in s.file.now s.bands.now) c.serving-band.ensures c.figures_of-each.ensures s.days.start s.every c.requires.good_meter.1 c.requires.room_with (c.add_reads-next.ensures.ends, c.add_reads-next.ensures.grown) c.add_during-more.ensures in
+    let both = meter_added s.file.now s.c.at c.meter-taken.ensures (bands_in s.file.now s.bands.now) c.serving-band.ensures c.figures_of-each.ensures s.days.from.0 s.every c.requires.good_meter.1 c.requires.room_with (c.add_reads-next.ensures.ends, c.add_reads-next.ensures.grown) c.add_during-more.ensures in
     record { ends = both.0; added = both.1 }

@@ -8,17 +8,17 @@ use Rattle.meters.proofs.Advances.{advance_fits}
 use Rattle.meters.proofs.counts_between.Goals as goal
 
 pub overflow_add-result : goal.overflow_add-result
-overflow_add-result c = let p = c.requires in let fits = advance_fits p.3 p.0 p.1 p.2 in omega (arith, c.turned.ensures)
+overflow_add-result c = let p = c.requires in let fits = advance_fits c.args.dial.of p.0 p.1 p.2 in omega (arith, c.only.ensures)
 
 pub overflow_sub-result : goal.overflow_sub-result
-overflow_sub-result c = let p = c.requires in let fits = advance_fits p.3 p.0 p.1 p.2 in omega (arith, c.turned.ensures)
+overflow_sub-result c = let p = c.requires in let fits = advance_fits c.args.dial.of p.0 p.1 p.2 in omega (arith, c.only.ensures)
 
 pub returns : goal.returns
 unfolding advance litres_per_count
 returns c =
     let p = c.requires in
     let s = c.args in
-    let fits = advance_fits p.3 p.0 p.1 p.2 in (
-      ap (λ turned. (s.later.value + turned - s.earlier.value) * 1000) (c.turned.ensures ∙ ap (only s.later.rollover) p.3),
-      omega (arith, c.turned.ensures),
+    let fits = advance_fits s.dial.of p.0 p.1 p.2 in (
+      ap (λ rolled. (s.later.value + rolled - s.earlier.value) * 1000) (c.only.ensures ∙ ap (only s.later.rollover) s.dial.of),
+      omega (arith, c.only.ensures),
     )

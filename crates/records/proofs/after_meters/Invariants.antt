@@ -4,4 +4,4 @@ use Rattle.records.proofs.Skip.{MetersLeft}
 use Rattle.records.proofs.after_meters.Given as goal
 
 abbrev pub invariant-loop : goal.invariant-loop
-invariant-loop l = MetersLeft l.file (l.count - l.counter) l.at (after_meters l.initial.at (meters l.file l.count l.initial.at))
+invariant-loop l = MetersLeft l.file (l.fn.list.count - l.counter) l.next.at (after_meters l.fn.list.first.at (meters l.file l.fn.list.count l.fn.list.first.at))

@@ -9,14 +9,11 @@ use Rattle.records.proofs.after_point.Goals as goal
 pub point-taken-requires : goal.point-taken-requires
 point-taken-requires c = omega (arith, c.requires, point_forward c.args.c.at (point_at c.args.file.now c.args.c.at))
 
-pub overflow_mul-at : goal.overflow_mul-at
-overflow_mul-at c = omega (arith, point_small c.args.file.now c.args.c.at c.point-taken.ensures c.requires)
-
-pub overflow_add-at : goal.overflow_add-at
-overflow_add-at c = omega (arith, point_small c.args.file.now c.args.c.at c.point-taken.ensures c.requires)
+pub past-conditions-requires : goal.past-conditions-requires
+past-conditions-requires c = omega (arith, point_small c.args.file.now c.args.c.at c.point-taken.ensures c.requires)
 
 pub after_lists-requires : goal.after_lists-requires
-after_lists-requires c = omega (arith, c.requires, point_past c.args.file.now c.args.c.at c.point-taken.ensures)
+after_lists-requires c = rw c.past-conditions.ensures (omega (arith, c.requires, point_past c.args.file.now c.args.c.at c.point-taken.ensures))
 
 pub returns : goal.returns
-returns c = c.after_lists.ensures ∙ point_past c.args.file.now c.args.c.at c.point-taken.ensures
+returns c = rw c.past-conditions.ensures at c.after_lists.ensures ∙ point_past c.args.file.now c.args.c.at c.point-taken.ensures

@@ -2,30 +2,21 @@
 use Rattle.spans.specs.Spans.{span_in}
 use Rattle.spans.proofs.Days.{adding_none, adding_asks, adding_room, adding_more, adding_done, reached_first}
 use Rattle.rules.proofs.Sums.{days_each}
-use native.Mathlib.Omega.{arith}
 use Rattle.spans.proofs.add_figures.Goals as goal
 
 pub loop-i-init : goal.loop-i-init
-loop-i-init c = (adding_none c.requires.cut.0 _ _ (reached_first c.requires.cut.0 _), omega arith)
+loop-i-init c = adding_none _ _ (reached_first _ _ _)
 
 pub span_with-s-requires : goal.span_with-s-requires
-span_with-s-requires c = adding_asks c.loop-i.invariant.0 (omega (arith, c.loop-i-test.true, c.requires.cut.1))
-
-pub overflow_sub-stop : goal.overflow_sub-stop
-unfolding span_in
-overflow_sub-stop c = omega (arith, c.min-stop.ensures, c.span_with-s.ensures.lasts, c.loop-i-test.true)
+span_with-s-requires c = adding_asks c.loop-i.invariant c.requires.cut.1 c.loop-i-test.true c.requires.cut.2
 
 pub add_each-requires : goal.add_each-requires
 unfolding span_in
-add_each-requires c = adding_room c.loop-i.invariant.0 c.span_with-s.ensures (omega (arith, c.min-stop.ensures, c.span_with-s.ensures.lasts, c.loop-i-test.true)) (omega (arith, c.min-stop.ensures)) c.requires.room (omega (arith, c.min-stop.ensures)) _ (λ q. days_each _ _ _)
-
-pub loop-i-smaller : goal.loop-i-smaller
-unfolding span_in
-loop-i-smaller c = omega (arith, c.min-stop.ensures, c.span_with-s.ensures.lasts, c.loop-i-test.true)
+add_each-requires c = adding_room c.loop-i.invariant c.requires.cut.1 c.loop-i-test.true c.span_with-s.ensures c.min-stop.ensures (λ q. days_each _ _ _) c.requires.room
 
 pub loop-i-preserved : goal.loop-i-preserved
 unfolding span_in
-loop-i-preserved c = (adding_more c.loop-i.invariant.0 c.span_with-s.ensures (omega (arith, c.min-stop.ensures, c.span_with-s.ensures.lasts, c.loop-i-test.true)) (omega (arith, c.min-stop.ensures)) _ (λ q. days_each _ _ _) c.add_each.ensures, omega (arith, c.min-stop.ensures))
+loop-i-preserved c = adding_more c.loop-i.invariant c.requires.cut.1 c.loop-i-test.true c.span_with-s.ensures c.min-stop.ensures (λ q. days_each _ _ _) c.add_each.ensures
 
 pub returns : goal.returns
-returns c = adding_done c.loop-i.invariant.0 c.loop-i-test.false c.loop-i.invariant.1
+returns c = adding_done c.loop-i.invariant c.loop-i-test.false

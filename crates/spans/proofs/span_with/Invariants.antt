@@ -1,10 +1,10 @@
-use Rattle.spans.specs.Spans.{Cut, Reached}
-use Prim.Native.Nat.{ℕ, ◌-◌, ◌<◌}
+use Rattle.spans.specs.Spans.{Reached}
+use Prim.Native.Nat.{◌-◌}
 use lib.ListN.{length}
 use Rattle.spans.proofs.span_with.Given as goal
 
 abbrev pub invariant-loop-s : goal.invariant-loop-s
-invariant-loop-s l = (n m : ℕ) → Cut l.spans n m → Reached l.spans m l.from l.i → l.i < n → Reached l.spans m l.s l.i
+invariant-loop-s l = Reached l.spans (length l.spans) l.s l.i
 
 abbrev pub decreases-loop-s : goal.decreases-loop-s
 decreases-loop-s l = length l.spans - l.s

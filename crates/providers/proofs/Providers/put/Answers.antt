@@ -6,7 +6,7 @@ use native.Mathlib.Omega.{arith}
 use borrow.Author.Rules.{rules}
 use lib.ListN.{get_or, length}
 use Rattle.std.specs.List.{refill, length_refill}
-use Rattle.std.proofs.lemmas.Result.{err_from_is_err_and}
+use Rattle.rules.proofs.Exits.{handed_on}
 use Rattle.rules.specs.Lists.{insert}
 use Rattle.providers.proofs.Insert.{there, put_in, longer, insert_kept, where_ok, told}
 use Rattle.providers.proofs.Providers.put.Goals as goal
@@ -19,10 +19,9 @@ absent c h e = elim c.else-at-len.branch [ else-at-len-via-then-at-len+else-dere
 
 pub returns-in_err-map_err : goal.returns-in_err-map_err
 returns-in_err-map_err c =
-    let err = err_from_is_err_and c.from_residual.result c.from_residual.ensures.1 in
     let over = told c.try_push.result _ _ _ c.in_err-map_err.ensures.variant c.try_push.ensures.full (λ e h. search rules) c.in_err-map_err.ensures.cases in
     let more = longer _ c.args.p _ (rw c.as_slice.ensures.value at c.place-at.ensures) (absent (goal.at.returns-in_err-map_err c).After-try_push) in
-    rw (err.1, err.2) (over.0, omega (arith, more, over.1))
+    rw (handed_on c.from_residual.ensures.1) (over.0, omega (arith, more, over.1))
 
 inserted : (c : After-last_to) → refill (length c.try_push.new.self.items) c.try_push.new.self.items c.last_to.new.numbers ≡ insert c.args.p c.args.self.now.list.items
 inserted c =
