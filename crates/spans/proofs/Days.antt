@@ -69,13 +69,11 @@ range_is b (suc n) i to f = grind (arith, nat_tests, range_is b n i to f, days_n
 module _ {spans : List Span} {n m : ℕ} (cut : Cut spans n m) where
   later : (s t : ℕ) → suc (s + t) ≤ m → end_in spans s ≤ begin_in spans (suc (s + t))
   unfolding begin_in
-  later s zero h = let e : s + 0 ≡ s = omega arith in rw e (le_refl _)
-  later s (suc t) h =
-      let e : s + suc t ≡ suc (s + t) = omega arith in
-      rw e (omega (arith, later s t (omega arith), cut.some (suc (s + t)) (omega arith)))
+  later s zero h = grind arith
+  later s (suc t) h = grind (arith, later s t (omega arith), cut.some (suc (s + t)) (omega arith))
 
   pub span_later : (s t : ℕ) → s < t → t ≤ m → end_in spans s ≤ begin_in spans t
-  span_later s t h k = let e : suc (s + (t - suc s)) ≡ t = omega arith in subst (λ t. end_in spans s ≤ begin_in spans t) e (later s (t - suc s) (omega arith))
+  span_later s t h k = grind (arith, later s (t - suc s))
 
   pub span_within : (s : ℕ) → s < m → end_in spans s ≤ n
   span_within s h = omega (arith, span_later s m h (le_refl m), cut.all)
@@ -273,7 +271,5 @@ module _ {before after : List Span} {from to s i : ℕ} {f : Sum → ℕ → ℕ
 
   -- at the end, also where there was no day
   pub adding_done : to ≤ i → Grown before after (length before) (λ q. during from to (f q))
-  adding_done h = grown_as (λ q e. elim (dec_lt from to) [
-    | yes lt ↦ ap (λ k. during from k (f q) e) {x = i} {y = to} (omega (arith, u.within))
-    | no ge ↦ during_none from i (f q) e (omega (arith, u.within)) ∙ sym (during_none from to (f q) e (omega arith))
-  ]) u.grown
+  unfolding during only
+  adding_done h = grown_as (λ q e. grind (arith, nat_tests, u.within)) u.grown
