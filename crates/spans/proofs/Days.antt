@@ -2,19 +2,16 @@
 -- function of days. Assumes nothing.
 use Prim.Native.Nat.{ℕ, zero, suc, ◌+◌, ◌-◌, ◌≤◌, ◌<◌, min, max, zero-le}
 use mathlib.Core.Path.{◌≡◌, refl, sym, ap, ◌∙◌, subst}
-use mathlib.Core.Logic.{◌⊎◌, inl, inr}
 use mathlib.Core.List.{List}
 use native.Mathlib.Nat.{le_refl}
-use native.Mathlib.Decide.{dec_lt}
 use native.Mathlib.Omega.{arith}
-use borrow.Author.Tests.{eq-eqb, ne_eqb, le-leb, lt-leb, lt-ltb, le-ltb}
+use borrow.Author.Tests.{eq-eqb}
 use lib.ListN.{length}
 use lib.Dec.{eqb}
 use Rattle.std.proofs.lemmas.Bool.Decides.{nat_tests}
 use Rattle.rules.specs.Sums.{only, over_days}
-use Rattle.rules.proofs.Lists.{three}
 use Rattle.rules.proofs.Shares.{days_eq, days_add, days_none}
-use Rattle.rules.proofs.Sums.{days_le, days_split}
+use Rattle.rules.proofs.Sums.{days_le}
 use Rattle.spans.specs.declared.Span.{Span}
 use Rattle.spans.specs.Spans.{end_in, begin_in, Cut, Reached, Holds, Sum, sum_in, SumsAdded, Kept, RoomAt, during, over_span, Grown, Room}
 
