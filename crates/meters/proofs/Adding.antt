@@ -3,7 +3,6 @@ use Prim.Native.Nat.{ℕ, ◌+◌, ◌-◌, ◌*◌, ◌^◌, ◌≤◌, ◌<◌
 use mathlib.Core.Path.{◌≡◌, refl, sym, ap, ◌∙◌}
 use mathlib.Core.List.{List, [], ◌∷◌}
 use native.Mathlib.Nat.{mul-le-mul, mul-le-mul_left}
-use native.Mathlib.Decide.{dec_lt}
 use native.Mathlib.Omega.{arith}
 use lib.ListN.{length}
 use Rattle.rules.specs.declared.Band.{Band}
@@ -19,7 +18,7 @@ use Rattle.rules.proofs.Sums.{days_each}
 use Rattle.spans.specs.declared.Figures.{Figures}
 use Rattle.spans.specs.declared.Span.{Span}
 use Rattle.spans.specs.Spans.{Sums, end_in, begin_in, Cut, Sum, litres_sum, annual_sum, allowance_sum, threshold_sum, sum_in, Kept, figure_of, during, over_span, Grown, Room}
-use Rattle.spans.proofs.Days.{during_in, during_zero, during_entry, span_within, begin_same, end_same, over_same, cut_kept, kept_all, kept_both, grown_on, room_on, over_eq, over_le, over_add, over_none, over_is}
+use Rattle.spans.proofs.Days.{during_in, during_zero, during_entry, span_within, begin_same, end_same, over_same, cut_kept, reached_first, kept_all, kept_both, grown_on, room_on, over_eq, over_le, over_add, over_none, over_is}
 use Rattle.meters.specs.Meters.{meter_of, weighed, Weights, meter_figure, sum_with, GrownWith, RoomWith, SumsClear, MetersIn}
 use Rattle.meters.proofs.Advances.{litres_at}
 use Rattle.meters.proofs.Bounds.{Figure, annual_figure, allowance_figure, threshold_figure, band_most, meters_most}
@@ -86,11 +85,7 @@ module _ (start first last : ℕ) (each every : Figures) {n : ℕ} {spans : List
           ∙ sym (days_each (figure_of each q) (begin_in spans s) (end_in spans s - begin_in spans s))
 
       some_span : 0 < length spans
-      unfolding begin_in
-      some_span = elim (dec_lt 0 (length spans)) [
-        | yes lt ↦ lt
-        | no ge ↦ let z : length spans ≡ 0 = omega arith in absurd (omega (arith, all.1, all.2, cut.all, ap (begin_in spans) z))
-      ]
+      some_span = grind (arith, (reached_first spans (length spans) 0).begun, cut.all, all.1, all.2)
 
       sum_fits : RoomWith every spans (length spans) on → (q : Sum) → figure_of every q + figure_of each q < 2 ^ 64
       unfolding sum_with

@@ -26,11 +26,11 @@ use Rattle.meters.specs.Meters.{carried, spread, spread_of, meter_of, AdvanceOf}
 -- WHAT THE FIRST DAYS CARRY
 pub carried_none : (litres parts n : ℕ) {j : ℕ} → j ≡ 0 → 0 ≡ carried_before litres parts n j
 unfolding carried_before
-carried_none litres parts n z = sym (ap (λ j. litres * parts * j / (10000 * n)) z ∙ ap (λ x. x / (10000 * n)) (mul-zero (litres * parts)) ∙ zero-div (10000 * n))
+carried_none litres parts n z = rw z (simp (mul-zero, zero-div))
 
 pub carried_all : (litres parts n : ℕ) {j : ℕ} → 0 < n → j ≡ n → litres * parts / 10000 ≡ carried_before litres parts n j
 unfolding carried_before
-carried_all litres parts n h e = sym (ap (λ j. litres * parts * j / (10000 * n)) e ∙ mul-div-mul_right {m = n} (litres * parts) 10000 h)
+carried_all litres parts n h e = rw e (sym (mul-div-mul_right {m = n} (litres * parts) 10000 h))
 
 pub carried_is : (litres parts n j : ℕ) → litres * parts * j / (10000 * n) ≡ carried_before litres parts n j
 unfolding carried_before
