@@ -118,9 +118,6 @@ module _ (file : List ℕ) (at : ℕ) {next : ℕ} {head : MeterHead} (e : (head
   meter_is : meter_of head (reads file head.reads next) ≡ meter_at file at
   meter_is = rw (e.0, e.1)
 
-  meter_after : after_reads next (reads file head.reads next) ≡ after_meter at (meter_at file at)
-  meter_after = rw (e.0, e.1)
-
   module _ (bs : List Band) {band : Band} (q : band ≡ band_for bs head.size) where
     weight_fits : {figure : Band → ℕ} → Figure figure → All GoodBand bs → GoodMeter (meter_at file at) → figure band * head.share ≤ 100000000000
     weight_fits {figure} f all g =
@@ -149,24 +146,19 @@ module _ (file : List ℕ) (at : ℕ) {next : ℕ} {head : MeterHead} (e : (head
       parts_are allowance_sum i = omega (arith, weighed_is (λ b. b.allowance) w.allowance (start + i))
       parts_are threshold_sum i = omega (arith, weighed_is (λ b. b.threshold) w.threshold (start + i))
 
-      module _ {n : ℕ} (every : Figures) {spans : List Span} (cut : Cut spans n (length spans))
-          (r : RoomWith every spans (length spans) (λ s i. meter_figure bs s (meter_at file at) (start + i))) where
+      module _ (every : Figures) {spans : List Span} where
         -- what its reads ask
-        pub meter_asks : after_meter at (meter_at file at) < 2 ^ 32 → GoodMeter (meter_at file at) →
-            (after_reads next (reads file head.reads next) < 2 ^ 32) × ((GoodMeter (meter_of head (reads file head.reads next)) × Cut spans n (length spans)) × Room spans (length spans) litres)
-        meter_asks small g = (
-          rw meter_after small,
-          ((rw meter_is g, cut), room_alone every (room_less every r (λ s i. omega (arith, parts_are s i)))),
-        )
+        pub reads_room : RoomWith every spans (length spans) (λ s i. meter_figure bs s (meter_at file at) (start + i)) → Room spans (length spans) litres
+        reads_room r = room_alone every (room_less every r (λ s i. omega (arith, parts_are s i)))
 
-        module _ {after : List Span} {end : ℕ} (read : (end ≡ after_reads next (reads file head.reads next)) × Grown spans after (length spans) litres) where
+        module _ {after : List Span} (read : Grown spans after (length spans) litres) where
           -- what its figures ask
-          pub during_asks : Cut after n (length after) × RoomWith every after (length after) figures
-          during_asks = (cut_kept read.1.kept cut, room_after (grown_with every read.1) r parts_are)
+          pub figures_room : RoomWith every spans (length spans) (λ s i. meter_figure bs s (meter_at file at) (start + i)) → RoomWith every after (length after) figures
+          figures_room r = room_after (grown_with every read) r parts_are
 
           pub meter_added : {last : List Span} {more : Figures} → GrownWith every more after last (length after) figures →
-              (end ≡ after_meter at (meter_at file at)) × GrownWith every more spans last (length spans) (λ s i. meter_figure bs s (meter_at file at) (start + i))
-          meter_added g = (read.0 ∙ meter_after, with_both (grown_with every read.1) g parts_are)
+              GrownWith every more spans last (length spans) (λ s i. meter_figure bs s (meter_at file at) (start + i))
+          meter_added g = with_both (grown_with every read) g parts_are
 
 -- METERS: what is left of a point's meters; `all` are all of them
 abbrev pub meters_of : List Band → List Meter → ℕ → Sum → ℕ → ℕ
