@@ -1,11 +1,11 @@
 -- The bands of a tariff: which of them serves, by their sizes. Assumes nothing.
 use Prim.Native.Nat.{ℕ, zero, suc, ◌+◌, ◌-◌, ◌*◌, ◌^◌, ◌≤◌, ◌<◌, zero-le}
 use mathlib.Core.Path.{◌≡◌, refl, sym, ap, ◌∙◌}
-use mathlib.Core.Bool.{Bool, true, false, cond}
+use mathlib.Core.Bool.{true, false}
 use mathlib.Core.List.{List, map}
 use native.Mathlib.Nat.{le_refl}
 use native.Mathlib.Omega.{arith}
-use borrow.Author.Tests.{ne_eqb, lt-leb, leb-true, leb-false}
+use borrow.Author.Tests.{leb-true, leb-false}
 use lib.Dec.{leb}
 use lib.ListN.{length, get_or}
 use Rattle.std.specs.List.{between}
@@ -17,7 +17,7 @@ use Rattle.rules.specs.declared.Band.{Band}
 use Rattle.rules.specs.Lists.{Ascending, latest}
 use Rattle.rules.specs.File.{records, band_at, bands, after_band, after_bands}
 use Rattle.rules.specs.Charges.{first_band, band_for}
-use Rattle.rules.proofs.Lists.{there, latest_here}
+use Rattle.rules.proofs.Lists.{there}
 use Rattle.records.proofs.Positions.{records_wide}
 use Rattle.records.proofs.Ahead.{read_one}
 use Rattle.bands.specs.Bands.{SizesOf}
@@ -42,12 +42,11 @@ module _ (file : List ℕ) (size : ℕ) where
 
   -- the last one that is not above the size
   served_at : (n at k : ℕ) → k ≤ n → ((j : ℕ) → j < k → key (at + suc j * 90) ≤ size) → ((j : ℕ) → k ≤ j → j < n → size < key (at + suc j * 90)) → served (band_at file at) (bands file n (at + 90)) ≡ band_at file (at + k * 90)
-  unfolding records
+  unfolding latest records
   served_at n at zero h below above = grind (arith, served_none (band_at file at) n (at + 90) (λ j l. grind (arith, above j zero-le l)))
   served_at zero at (suc k) h below above = absurd (omega arith)
   served_at (suc n) at (suc k) h below above =
-      latest_here (λ b. b.size) size (λ b. b) (band_at file at) (band_at file (at + 90)) (bands file n (at + 90 + 90)) (grind (arith, below 0))
-      ∙ grind (arith, served_at n (at + 90) k (omega arith) (λ j l. grind (arith, below (suc j))) (λ j l r. grind (arith, above (suc j))))
+      grind (arith, nat_tests, below 0, served_at n (at + 90) k (omega arith) (λ j l. grind (arith, below (suc j))) (λ j l r. grind (arith, above (suc j))))
 
   -- their sizes ascend
   rising_from : (low n at : ℕ) → Ascending low (map (λ b. b.size) (bands file n at)) → (j : ℕ) → j < n → low ≤ key (at + j * 90)
@@ -63,10 +62,6 @@ module _ (file : List ℕ) (size : ℕ) where
   rising_at low (suc n) at up zero (suc j) h l = grind (arith, rising_from (suc (key at)) n (at + 90) up.1 j (omega arith))
   rising_at low (suc n) at up (suc i) zero h l = absurd (omega arith)
   rising_at low (suc n) at up (suc i) (suc j) h l = grind (arith, rising_at (suc (key at)) n (at + 90) up.1 i j (omega arith) (omega arith))
-
-  cond_same : {A : Type 0} (t : Bool) (x : A) → cond t x x ≡ x
-  cond_same true x = refl
-  cond_same false x = refl
 
   -- THE SEARCH in the sizes behind the first, as a slice has them
   module _ {at : ℕ} {sizes slice : List ℕ} (is : slice ≡ sizes) (some : 1 ≤ length sizes) (u : SizesOf file (length sizes) at sizes) where
@@ -96,5 +91,4 @@ module _ (file : List ℕ) (size : ℕ) where
           ∙ sym (served_at (length sizes - 1) at k (omega (arith, later_many))
           (λ j l. omega (arith, leb-true _ _ (point.0 j 0 zero-le l), later_size j 0 (omega (arith, later_many))))
           (λ j l r. omega (arith, leb-false _ _ (point.1 j 0 l (omega (arith, later_many))), later_size j 0 (omega (arith, later_many)))))
-          ∙ ap (λ b. served b (bands file (length sizes - 1) (at + 90))) (sym (cond_same (leb (key at) size) (band_at file at)))
-          ∙ sym (ap (λ bs. band_for bs size) (read_one (band_at file) (λ at b. after_band at) (length sizes) at (omega arith) (refl, refl)) ∙ simp (ne_eqb size 0 real))
+          ∙ sym (ap (λ bs. band_for bs size) (read_one (band_at file) (λ at b. after_band at) (length sizes) at (omega arith) (refl, refl)) ∙ grind (arith, nat_tests))

@@ -26,25 +26,15 @@ use Rattle.meters.specs.Meters.{carried, spread, spread_of, meter_of, AdvanceOf}
 -- WHAT THE FIRST DAYS CARRY
 pub carried_none : (litres parts n : ℕ) {j : ℕ} → j ≡ 0 → 0 ≡ carried_before litres parts n j
 unfolding carried_before
-carried_none litres parts n z = sym (ap (λ j. litres * parts * j / (10000 * n)) z ∙ ap (λ x. x / (10000 * n)) (mul-zero (litres * parts)) ∙ zero-div (10000 * n))
+carried_none litres parts n z = rw z (simp (mul-zero, zero-div))
 
 pub carried_all : (litres parts n : ℕ) {j : ℕ} → 0 < n → j ≡ n → litres * parts / 10000 ≡ carried_before litres parts n j
 unfolding carried_before
-carried_all litres parts n h e = sym (ap (λ j. litres * parts * j / (10000 * n)) e ∙ mul-div-mul_right {m = n} (litres * parts) 10000 h)
-
-pub carried_is : (litres parts n j : ℕ) → litres * parts * j / (10000 * n) ≡ carried_before litres parts n j
-unfolding carried_before
-carried_is litres parts n j = refl
+carried_all litres parts n h e = rw e (sym (mul-div-mul_right {m = n} (litres * parts) 10000 h))
 
 pub carried_grows : (litres parts n x y : ℕ) → x ≤ y → carried_before litres parts n x ≤ carried_before litres parts n y
 unfolding carried_before
 carried_grows litres parts n x y h = div_mono (10000 * n) (mul-le-mul_left (litres * parts) h)
-
-pub amount_fits : (a : Advance) → a.litres * a.parts ≤ 1000000000000000
-amount_fits a = omega (arith, mul-le-mul a.spreadable.few a.spreadable.whole)
-
-pub product_fits : (a : Advance) (day : ℕ) → day ≤ a.last → a.litres * a.parts * (day - a.first) ≤ 3660000000000000000
-product_fits a day h = omega (arith, mul-le-mul {m₁ = day - a.first} {m₂ = 3660} (amount_fits a) (omega (arith, a.spreadable.near)))
 
 -- litres of an entry's day, as one of the sums
 abbrev pub litres_at : ℕ → (ℕ → ℕ) → Sum → ℕ → ℕ

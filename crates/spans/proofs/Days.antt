@@ -2,19 +2,16 @@
 -- function of days. Assumes nothing.
 use Prim.Native.Nat.{ℕ, zero, suc, ◌+◌, ◌-◌, ◌≤◌, ◌<◌, min, max, zero-le}
 use mathlib.Core.Path.{◌≡◌, refl, sym, ap, ◌∙◌, subst}
-use mathlib.Core.Logic.{◌⊎◌, inl, inr}
 use mathlib.Core.List.{List}
 use native.Mathlib.Nat.{le_refl}
-use native.Mathlib.Decide.{dec_lt}
 use native.Mathlib.Omega.{arith}
-use borrow.Author.Tests.{eq-eqb, ne_eqb, le-leb, lt-leb, lt-ltb, le-ltb}
+use borrow.Author.Tests.{eq-eqb}
 use lib.ListN.{length}
 use lib.Dec.{eqb}
 use Rattle.std.proofs.lemmas.Bool.Decides.{nat_tests}
 use Rattle.rules.specs.Sums.{only, over_days}
-use Rattle.rules.proofs.Lists.{three}
 use Rattle.rules.proofs.Shares.{days_eq, days_add, days_none}
-use Rattle.rules.proofs.Sums.{days_le, days_split}
+use Rattle.rules.proofs.Sums.{days_le}
 use Rattle.spans.specs.declared.Span.{Span}
 use Rattle.spans.specs.Spans.{end_in, begin_in, Cut, Reached, Holds, Sum, sum_in, SumsAdded, Kept, RoomAt, during, over_span, Grown, Room}
 
@@ -55,64 +52,43 @@ pub during_zero : (from to i : ℕ) → during from to (λ e. 0) i ≡ 0
 unfolding during only
 during_zero from to i = grind (arith, nat_tests)
 
--- OVER A RANGE of days, from b on
-module _ (b n i to : ℕ) (f : ℕ → ℕ) where
-  -- some days are among them
-  range_holds : b ≤ i → i ≤ to → to ≤ b + n → over_days b n (during i to f) ≡ over_days i (to - i) f
-  range_holds p q r =
-      let x = i - b in
-      let y = to - i in
-      let z = n - (x + y) in
-      let size : n ≡ x + (y + z) = omega arith in
-      let at : b + x ≡ i = omega arith in
-      let cut = ap (λ k. over_days b k (during i to f)) size ∙ days_split b x (y + z) (during i to f) in
-      let cut' = days_split (b + x) y z (during i to f) in
-      let low : over_days b x (during i to f) ≡ 0 = days_eq b x (λ d k l. during_before i to f d (omega arith)) ∙ days_none b x in
-      let mid : over_days (b + x) y (during i to f) ≡ over_days i y f =
-      days_eq (b + x) y (λ d k l. during_in i to f d (omega arith) (omega arith)) ∙ ap (λ k. over_days k y f) at in
-      let high : over_days (b + x + y) z (during i to f) ≡ 0 = days_eq (b + x + y) z (λ d k l. during_after i to f d (omega arith)) ∙ days_none (b + x + y) z in
-      omega (arith, cut, cut', low, mid, high)
+-- OVER A RANGE of n days, from b on: those of some others that are among them
+days_next : (from n : ℕ) (f : ℕ → ℕ) → (over_days from 0 f ≡ 0) × (over_days from (suc n) f ≡ over_days from n f + f (from + n))
+unfolding over_days
+days_next from n f = (refl, refl)
 
-  -- or not
-  range_before : b + n ≤ i → over_days b n (during i to f) ≡ 0
-  range_before h = days_eq b n (λ d k l. during_before i to f d (omega arith)) ∙ days_none b n
-
-  range_after : to ≤ b → over_days b n (during i to f) ≡ 0
-  range_after h = days_eq b n (λ d k l. during_after i to f d (omega arith)) ∙ days_none b n
+range_is : (b n i to : ℕ) (f : ℕ → ℕ) → over_days b n (during i to f) ≡ over_days (max b i) (min (b + n) to - max b i) f
+unfolding during only
+range_is b zero i to f = grind (arith, days_next b 0 (during i to f), days_next (max b i) 0 f)
+range_is b (suc n) i to f = grind (arith, nat_tests, range_is b n i to f, days_next b n (during i to f), days_next (max b i) (b + n - max b i) f)
 
 -- SPANS IN THEIR ORDER
 module _ {spans : List Span} {n m : ℕ} (cut : Cut spans n m) where
   later : (s t : ℕ) → suc (s + t) ≤ m → end_in spans s ≤ begin_in spans (suc (s + t))
   unfolding begin_in
-  later s zero h = let e : s + 0 ≡ s = omega arith in rw e (le_refl _)
-  later s (suc t) h =
-      let e : s + suc t ≡ suc (s + t) = omega arith in
-      rw e (omega (arith, later s t (omega arith), cut.some (suc (s + t)) (omega arith)))
+  later s zero h = grind arith
+  later s (suc t) h = grind (arith, later s t (omega arith), cut.some (suc (s + t)) (omega arith))
 
   pub span_later : (s t : ℕ) → s < t → t ≤ m → end_in spans s ≤ begin_in spans t
-  span_later s t h k = let e : suc (s + (t - suc s)) ≡ t = omega arith in subst (λ t. end_in spans s ≤ begin_in spans t) e (later s (t - suc s) (omega arith))
+  span_later s t h k = grind (arith, later s (t - suc s))
 
   pub span_within : (s : ℕ) → s < m → end_in spans s ≤ n
   span_within s h = omega (arith, span_later s m h (le_refl m), cut.all)
 
   -- THE SUM OVER A SPAN of days up to an entry of it, and then on to another
   module _ {s i : ℕ} (holds : Holds spans m i s) {stop : ℕ} (forward : i ≤ stop) (within : stop ≤ end_in spans s) (f : ℕ → ℕ) where
-    span_piece : (t : ℕ) → t < m → (t < s) ⊎ ((t ≡ s) ⊎ (s < t)) → over_span spans t (during i stop f) ≡ only (eqb t s) (over_days i (stop - i) f)
+    span_piece : (t : ℕ) → t < m → over_span spans t (during i stop f) ≡ only (eqb t s) (over_days i (stop - i) f)
     unfolding over_span only
-    span_piece t h (inl l) =
-        let here = cut.some t h in
-        simp (ne_eqb t s (omega arith)) (range_before _ _ i stop f (omega (arith, span_later t s l (omega (arith, holds.within)), holds.begun)))
-    span_piece t h (inr (inl e)) =
-        rw e (simp (eq-eqb s s refl) (range_holds _ _ i stop f holds.begun forward (omega (arith, cut.some s holds.within))))
-    span_piece t h (inr (inr l)) =
-        simp (ne_eqb t s (omega arith)) (range_after _ _ i stop f (omega (arith, span_later s t l (omega arith))))
+    span_piece t h =
+        let b = begin_in spans t in
+        grind (arith, nat_tests, range_is b (end_in spans t - b) i stop f, days_next (max b i) 0 f, cut.some t h, span_later t s, span_later s t, holds.begun, holds.within)
 
     pub span_step : (from t : ℕ) → from ≤ i → t < m → over_span spans t (during from stop f) ≡ over_span spans t (during from i f) + only (eqb t s) (over_days i (stop - i) f)
     unfolding over_span
     span_step from t a h =
         days_eq _ _ (λ d k l. during_split from i stop f d a forward)
         ∙ days_add _ _ (during from i f) (during i stop f)
-        ∙ ap (λ x. over_span spans t (during from i f) + x) (span_piece t h (three t s))
+        ∙ ap (λ x. over_span spans t (during from i f) + x) (span_piece t h)
 
 -- A SPAN IS LOOKED FOR from a place that is reached
 pub reached_first : (spans : List Span) (m i : ℕ) → Reached spans m 0 i
@@ -292,7 +268,5 @@ module _ {before after : List Span} {from to s i : ℕ} {f : Sum → ℕ → ℕ
 
   -- at the end, also where there was no day
   pub adding_done : to ≤ i → Grown before after (length before) (λ q. during from to (f q))
-  adding_done h = grown_as (λ q e. elim (dec_lt from to) [
-    | yes lt ↦ ap (λ k. during from k (f q) e) {x = i} {y = to} (omega (arith, u.within))
-    | no ge ↦ during_none from i (f q) e (omega (arith, u.within)) ∙ sym (during_none from to (f q) e (omega arith))
-  ]) u.grown
+  unfolding during only
+  adding_done h = grown_as (λ q e. grind (arith, nat_tests, u.within)) u.grown
