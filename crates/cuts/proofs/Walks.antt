@@ -1,4 +1,4 @@
--- Dated records that are gone through in the order of the days, transfers and conditions alike. Assumes nothing.
+-- A point's transfers and its conditions, each as far as they were gone through in the order of the days. Assumes nothing.
 use Prim.Native.Nat.{ℕ, ◌+◌, ◌-◌, ◌^◌, ◌≤◌, ◌<◌}
 use mathlib.Core.Path.{◌≡◌, refl, sym, ap}
 use mathlib.Core.Bool.{Bool, true, false, cond}
