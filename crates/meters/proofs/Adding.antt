@@ -9,7 +9,7 @@ use Rattle.rules.specs.declared.Band.{Band}
 use Rattle.rules.specs.declared.MeterHead.{MeterHead}
 use Rattle.rules.specs.Sums.{over}
 use Rattle.rules.specs.Lists.{All}
-use Rattle.rules.specs.File.{Meter, meter_head_at, reads, reads_from, after_reads, meter_at, after_meter}
+use Rattle.rules.specs.File.{Meter, meter_head_at, reads, reads_from, meter_at}
 use Rattle.rules.specs.Litres.{meter_litres}
 use Rattle.rules.specs.Charges.{band_for}
 use Rattle.rules.specs.Good.{GoodBand, GoodMeter}
