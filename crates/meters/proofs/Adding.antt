@@ -7,9 +7,10 @@ use native.Mathlib.Omega.{arith}
 use lib.ListN.{length}
 use Rattle.rules.specs.declared.Band.{Band}
 use Rattle.rules.specs.declared.MeterHead.{MeterHead}
-use Rattle.rules.specs.Sums.{over}
+use Rattle.std.proofs.lemmas.Bool.Decides.{nat_tests}
+use Rattle.rules.specs.Sums.{only, over}
 use Rattle.rules.specs.Lists.{All}
-use Rattle.rules.specs.File.{Meter, meter_head_at, reads, reads_from, after_reads, meter_at, after_meter}
+use Rattle.rules.specs.File.{Meter, meter_head_at, reads, reads_from, meter_at}
 use Rattle.rules.specs.Litres.{meter_litres}
 use Rattle.rules.specs.Charges.{band_for}
 use Rattle.rules.specs.Good.{GoodBand, GoodMeter}
@@ -18,7 +19,7 @@ use Rattle.rules.proofs.Sums.{days_each}
 use Rattle.spans.specs.declared.Figures.{Figures}
 use Rattle.spans.specs.declared.Span.{Span}
 use Rattle.spans.specs.Spans.{Sums, end_in, begin_in, Cut, Sum, litres_sum, annual_sum, allowance_sum, threshold_sum, sum_in, Kept, figure_of, during, over_span, Grown, Room}
-use Rattle.spans.proofs.Days.{during_in, during_zero, during_entry, span_within, begin_same, end_same, over_same, cut_kept, reached_first, kept_all, kept_both, grown_on, room_on, over_eq, over_le, over_add, over_none, over_is}
+use Rattle.spans.proofs.Days.{during_zero, during_entry, span_within, begin_same, end_same, over_same, cut_kept, reached_first, kept_all, kept_both, grown_on, room_on, over_eq, over_le, over_add, over_none, over_is}
 use Rattle.meters.specs.Meters.{meter_of, weighed, Weights, meter_figure, sum_with, GrownWith, RoomWith, SumsClear, MetersIn}
 use Rattle.meters.proofs.Advances.{litres_at}
 use Rattle.meters.proofs.Bounds.{Figure, annual_figure, allowance_figure, threshold_figure, band_most, meters_most}
@@ -76,7 +77,8 @@ module _ (start first last : ℕ) (each every : Figures) {n : ℕ} {spans : List
     -- or they are on all days, of which there is one
     module _ (all : (from ≡ 0) × (to ≡ n) × (0 < to)) where
       on_day : (q : Sum) (i : ℕ) → i < n → on q i ≡ figure_of each q
-      on_day q i h = during_in first last _ (start + i) (omega (arith, all.0, all.1, all.2)) (omega (arith, all.0, all.1, all.2))
+      unfolding during only
+      on_day q i h = grind (arith, nat_tests, all.0, all.1, all.2)
 
       on_span : (q : Sum) (s : ℕ) → s < length spans → over_span spans s (on q) ≡ figure_of each q * (end_in spans s - begin_in spans s)
       unfolding over_span

@@ -16,19 +16,6 @@ use Rattle.spans.specs.declared.Span.{Span}
 use Rattle.spans.specs.Spans.{end_in, begin_in, Cut, Reached, Holds, Sum, sum_in, SumsAdded, Kept, RoomAt, during, over_span, Grown, Room}
 
 -- F ON SOME DAYS
-module _ (from to : ℕ) (f : ℕ → ℕ) (i : ℕ) where
-  pub during_in : from ≤ i → i < to → during from to f i ≡ f i
-  unfolding during only
-  during_in h k = grind (arith, nat_tests)
-
-  pub during_before : i < from → during from to f i ≡ 0
-  unfolding during only
-  during_before h = grind (arith, nat_tests)
-
-  pub during_after : to ≤ i → during from to f i ≡ 0
-  unfolding during only
-  during_after k = grind (arith, nat_tests)
-
 -- up to a day, and then on
 during_split : (from i to : ℕ) (f : ℕ → ℕ) (e : ℕ) → from ≤ i → i ≤ to → during from to f e ≡ during from i f e + during i to f e
 unfolding during only
@@ -44,19 +31,16 @@ pub during_entry : (n start first last : ℕ) (f : ℕ → ℕ) (i : ℕ) → i 
 unfolding during only
 during_entry n start first last f i h = grind (arith, nat_tests)
 
-pub during_le : (from to b : ℕ) (f : ℕ → ℕ) (i : ℕ) → f i ≤ b → during from to f i ≤ b
-unfolding during only
-during_le from to b f i h = grind (arith, nat_tests)
-
 pub during_zero : (from to i : ℕ) → during from to (λ e. 0) i ≡ 0
 unfolding during only
 during_zero from to i = grind (arith, nat_tests)
 
--- OVER A RANGE of n days, from b on: those of some others that are among them
+-- OVER A RANGE of days: over none, and over one more
 days_next : (from n : ℕ) (f : ℕ → ℕ) → (over_days from 0 f ≡ 0) × (over_days from (suc n) f ≡ over_days from n f + f (from + n))
 unfolding over_days
 days_next from n f = (refl, refl)
 
+-- over n days, from b on: those between the two that are among them
 range_is : (b n i to : ℕ) (f : ℕ → ℕ) → over_days b n (during i to f) ≡ over_days (max b i) (min (b + n) to - max b i) f
 unfolding during only
 range_is b zero i to f = grind (arith, days_next b 0 (during i to f), days_next (max b i) 0 f)

@@ -1,5 +1,4 @@
 -- `meters::add_during` meets its contract: a meter on all days is added to what every day has, and any other to the spans. Assumes nothing.
-use native.Mathlib.Omega.{arith}
 use Rattle.meters.proofs.Adding.{every_fits, figures_every, figures_ask, figures_put}
 use Rattle.meters.proofs.add_during.Goals as goal
 

@@ -1,7 +1,5 @@
 -- `meters::spread_advance` meets its contract. Assumes nothing.
-use native.Mathlib.Omega.{arith}
-use Rattle.spans.proofs.Days.{kept_all, reached_kept}
-use Rattle.meters.proofs.Advances.{amount_fits, whole_room, whole_added}
+use Rattle.meters.proofs.Advances.{whole_room, whole_added}
 use Rattle.meters.proofs.spread_advance.Goals as goal
 
 pub add_litres-requires : goal.add_litres-requires
