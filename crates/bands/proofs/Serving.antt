@@ -1,22 +1,23 @@
 -- The bands of a tariff: which of them serves, by their sizes. Assumes nothing.
 use Prim.Native.Nat.{ℕ, zero, suc, ◌+◌, ◌-◌, ◌*◌, ◌^◌, ◌≤◌, ◌<◌, zero-le}
 use mathlib.Core.Path.{◌≡◌, refl, sym, ap, ◌∙◌}
-use mathlib.Core.Bool.{Bool, true, false, cond}
+use mathlib.Core.Bool.{true, false}
 use mathlib.Core.List.{List, map}
 use native.Mathlib.Nat.{le_refl}
 use native.Mathlib.Omega.{arith}
-use borrow.Author.Tests.{ne_eqb, lt-leb, leb-true, leb-false}
+use borrow.Author.Tests.{leb-true, leb-false}
 use lib.Dec.{leb}
 use lib.ListN.{length, get_or}
 use Rattle.std.specs.List.{between}
 use Rattle.std.specs.List.Sorted.{IsPartitionedBy, IsPartitionPoint}
+use Rattle.std.proofs.lemmas.Bool.Decides.{nat_tests}
 use Rattle.std.proofs.lemmas.List.Edits.{length-between, get_or-between}
 use Rattle.std.proofs.lemmas.List.Sorted.{IsPartitionedBy-leb}
 use Rattle.rules.specs.declared.Band.{Band}
 use Rattle.rules.specs.Lists.{Ascending, latest}
 use Rattle.rules.specs.File.{records, band_at, bands, after_band, after_bands}
 use Rattle.rules.specs.Charges.{first_band, band_for}
-use Rattle.rules.proofs.Lists.{there, latest_here}
+use Rattle.rules.proofs.Lists.{there}
 use Rattle.records.proofs.Positions.{records_wide}
 use Rattle.records.proofs.Ahead.{read_one}
 use Rattle.bands.specs.Bands.{SizesOf}
@@ -29,9 +30,6 @@ module _ (file : List ℕ) (size : ℕ) where
   abbrev key : ℕ → ℕ
   key at = (band_at file at).size
 
-  key_as : (a b : ℕ) → a ≡ b → key a ≡ key b
-  key_as a b e = ap key e
-
   -- what serves, of a band and of those behind it
   abbrev served : Band → List Band → Band
   served first bs = latest (λ b. b.size) (λ b. b) first bs size
@@ -40,42 +38,30 @@ module _ (file : List ℕ) (size : ℕ) where
   served_none : (first : Band) (n at : ℕ) → ((j : ℕ) → j < n → size < key (at + j * 90)) → served first (bands file n at) ≡ first
   unfolding latest records
   served_none first zero at h = refl
-  served_none first (suc n) at h =
-      ap (λ t. served (cond t (band_at file at) first) (bands file n (at + 90))) (lt-leb (key at) size (omega (arith, h 0 (omega arith), key_as (at + 0 * 90) at (omega arith))))
-      ∙ served_none first n (at + 90) (λ j l. omega (arith, h (suc j) (omega arith), key_as (at + suc j * 90) (at + 90 + j * 90) (omega arith)))
+  served_none first (suc n) at h = grind (arith, nat_tests, h 0, served_none first n (at + 90) (λ j l. grind (arith, h (suc j))))
 
   -- the last one that is not above the size
   served_at : (n at k : ℕ) → k ≤ n → ((j : ℕ) → j < k → key (at + suc j * 90) ≤ size) → ((j : ℕ) → k ≤ j → j < n → size < key (at + suc j * 90)) → served (band_at file at) (bands file n (at + 90)) ≡ band_at file (at + k * 90)
-  unfolding records
-  served_at n at zero h below above =
-      served_none (band_at file at) n (at + 90) (λ j l. omega (arith, above j zero-le l, key_as (at + suc j * 90) (at + 90 + j * 90) (omega arith)))
-      ∙ ap (band_at file) {x = at} {y = at + 0 * 90} (omega arith)
+  unfolding latest records
+  served_at n at zero h below above = grind (arith, served_none (band_at file at) n (at + 90) (λ j l. grind (arith, above j zero-le l)))
   served_at zero at (suc k) h below above = absurd (omega arith)
   served_at (suc n) at (suc k) h below above =
-      latest_here (λ b. b.size) size (λ b. b) (band_at file at) (band_at file (at + 90)) (bands file n (at + 90 + 90)) (omega (arith, below 0 (omega arith), key_as (at + 1 * 90) (at + 90) (omega arith)))
-      ∙ served_at n (at + 90) k (omega arith) (λ j l. omega (arith, below (suc j) (omega arith), key_as (at + suc (suc j) * 90) (at + 90 + suc j * 90) (omega arith)))
-      (λ j l r. omega (arith, above (suc j) (omega arith) (omega arith), key_as (at + suc (suc j) * 90) (at + 90 + suc j * 90) (omega arith)))
-      ∙ ap (band_at file) {x = at + 90 + k * 90} {y = at + suc k * 90} (omega arith)
+      grind (arith, nat_tests, below 0, served_at n (at + 90) k (omega arith) (λ j l. grind (arith, below (suc j))) (λ j l r. grind (arith, above (suc j))))
 
   -- their sizes ascend
   rising_from : (low n at : ℕ) → Ascending low (map (λ b. b.size) (bands file n at)) → (j : ℕ) → j < n → low ≤ key (at + j * 90)
   unfolding records
   rising_from low zero at up j h = absurd (omega arith)
-  rising_from low (suc n) at up zero h = omega (arith, up.0, key_as (at + 0 * 90) at (omega arith))
-  rising_from low (suc n) at up (suc j) h = omega (arith, up.0, rising_from (suc (key at)) n (at + 90) up.1 j (omega arith), key_as (at + suc j * 90) (at + 90 + j * 90) (omega arith))
+  rising_from low (suc n) at up zero h = grind (arith, up.0)
+  rising_from low (suc n) at up (suc j) h = grind (arith, up.0, rising_from (suc (key at)) n (at + 90) up.1 j (omega arith))
 
   rising_at : (low n at : ℕ) → Ascending low (map (λ b. b.size) (bands file n at)) → (i j : ℕ) → i ≤ j → j < n → key (at + i * 90) ≤ key (at + j * 90)
   unfolding records
   rising_at low zero at up i j h l = absurd (omega arith)
   rising_at low (suc n) at up zero zero h l = omega arith
-  rising_at low (suc n) at up zero (suc j) h l = omega (arith, rising_from (suc (key at)) n (at + 90) up.1 j (omega arith), key_as (at + 0 * 90) at (omega arith), key_as (at + suc j * 90) (at + 90 + j * 90) (omega arith))
+  rising_at low (suc n) at up zero (suc j) h l = grind (arith, rising_from (suc (key at)) n (at + 90) up.1 j (omega arith))
   rising_at low (suc n) at up (suc i) zero h l = absurd (omega arith)
-  rising_at low (suc n) at up (suc i) (suc j) h l =
-      omega (arith, rising_at (suc (key at)) n (at + 90) up.1 i j (omega arith) (omega arith), key_as (at + suc i * 90) (at + 90 + i * 90) (omega arith), key_as (at + suc j * 90) (at + 90 + j * 90) (omega arith))
-
-  cond_same : {A : Type 0} (t : Bool) (x : A) → cond t x x ≡ x
-  cond_same true x = refl
-  cond_same false x = refl
+  rising_at low (suc n) at up (suc i) (suc j) h l = grind (arith, rising_at (suc (key at)) n (at + 90) up.1 i j (omega arith) (omega arith))
 
   -- THE SEARCH in the sizes behind the first, as a slice has them
   module _ {at : ℕ} {sizes slice : List ℕ} (is : slice ≡ sizes) (some : 1 ≤ length sizes) (u : SizesOf file (length sizes) at sizes) where
@@ -88,7 +74,7 @@ module _ (file : List ℕ) (size : ℕ) where
     later_size : (j d : ℕ) → suc j < length sizes → get_or later j d ≡ key (at + suc j * 90)
     later_size j d h =
         get_or-between slice 1 (length slice) j d (omega (arith, ap length is)) ∙ there slice (1 + j) d 0 (omega (arith, ap length is)) ∙ ap (λ xs. get_or xs (1 + j) 0) is
-        ∙ u.each (1 + j) (omega arith) ∙ key_as (at + (1 + j) * 90) (at + suc j * 90) (omega arith)
+        ∙ u.each (1 + j) (omega arith) ∙ grind arith
 
     pub later_parted : Ascending 0 (map (λ b. b.size) (bands file (length sizes) at)) → IsPartitionedBy (λ y. leb y size) later
     later_parted up = IsPartitionedBy-leb (λ y. y) later size (λ i j d h l.
@@ -105,5 +91,4 @@ module _ (file : List ℕ) (size : ℕ) where
           ∙ sym (served_at (length sizes - 1) at k (omega (arith, later_many))
           (λ j l. omega (arith, leb-true _ _ (point.0 j 0 zero-le l), later_size j 0 (omega (arith, later_many))))
           (λ j l r. omega (arith, leb-false _ _ (point.1 j 0 l (omega (arith, later_many))), later_size j 0 (omega (arith, later_many)))))
-          ∙ ap (λ b. served b (bands file (length sizes - 1) (at + 90))) (sym (cond_same (leb (key at) size) (band_at file at)))
-          ∙ sym (ap (λ bs. band_for bs size) (read_one (band_at file) (λ at b. after_band at) (length sizes) at (omega arith) (refl, refl)) ∙ simp (ne_eqb size 0 real))
+          ∙ sym (ap (λ bs. band_for bs size) (read_one (band_at file) (λ at b. after_band at) (length sizes) at (omega arith) (refl, refl)) ∙ grind (arith, nat_tests))

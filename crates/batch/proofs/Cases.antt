@@ -1,5 +1,5 @@
 -- What a batch's bytes lose and have left as a case is read. Assumes nothing.
-use Rattle.std.proofs.Common.{◌≡◌, ℕ, ◌+◌, ◌-◌, ◌≤◌, ◌<◌, List, [], ◌∷◌, ◌++◌, None, Some, arith, length, take, min, slice_index, subst, refl, sym, ap, ◌∙◌, length-append, append-nil, take_all}
+use Rattle.std.proofs.Common.{◌≡◌, ℕ, ◌+◌, ◌-◌, ◌≤◌, ◌<◌, List, [], ◌∷◌, ◌++◌, None, Some, arith, length, take, min, slice_index, subst, refl, sym, ap, ◌∙◌, length-append, append-nil, take_all, length-take-le}
 use Rattle.std.proofs.Math.Seq.{take-append_seam}
 use Rattle.std.proofs.Math.ListN.{get_or-append}
 use Rattle.std.specs.declared.option.Option.{Option}
@@ -19,17 +19,8 @@ number_front head ys at h =
     let e : (i : ℕ) → i < length head → slice_index (head ++ ys) i ≡ slice_index head i = λ i k. get_or-append head ys 0 i k in
     rw (e at (omega arith)) (rw (e (at + 1) (omega arith)) (rw (e (at + 2) (omega arith)) (rw (e (at + 3) (omega arith)) refl)))
 
--- where the input ends within a case's file, there is no whole case
-pub no_file : (o a b : Option (List ℕ)) (head part : List ℕ) (rest size : ℕ) → Consumes o a head → Consumes a b part → EndsBefore b rest → length head ≡ 12 → length part + rest ≤ size → size ≡ number head 0 → NoCase o
-no_file None a b head part rest size c d e h k s = tt
-no_file (Some xs) None b head part rest size c d e h k s = absurd c
-no_file (Some xs) (Some ys) None head part rest size c d e h k s = absurd d
-no_file (Some xs) (Some ys) (Some zs) head part rest size c d e h k s =
-    let same : number xs 0 ≡ number head 0 = ap (λ l. number l 0) c ∙ number_front head ys 0 (omega arith) in
-    λ long. omega (arith, ap length c, ap length d, length-append head ys, length-append part zs, same)
-
 -- an input at its end has less than any part that is wanted
-pub ends_before : (b : Option (List ℕ)) (rest : ℕ) → IsAtEnd b → 0 < rest → EndsBefore b rest
+ends_before : (b : Option (List ℕ)) (rest : ℕ) → IsAtEnd b → 0 < rest → EndsBefore b rest
 ends_before None rest e h = tt
 ends_before (Some zs) rest e h = omega (arith, ap length e)
 
@@ -38,26 +29,55 @@ pub lost_whole : (o a : Option (List ℕ)) (n : ℕ) (xs : List ℕ) → length 
 lost_whole o a n xs h c = subst (Consumes o a) (take_all n xs h) c
 
 -- A space that took a file's first bytes, all of them or as many as it had room for, has as much of the file as it holds.
-pub held : (kept room : ℕ) (xs after waste : List ℕ) → length xs ≡ kept → kept ≡ min (length (xs ++ waste)) room → take kept (xs ++ after) ≡ take room (xs ++ waste)
+held : (kept room : ℕ) (xs after waste : List ℕ) → length xs ≡ kept → kept ≡ min (length (xs ++ waste)) room → take kept (xs ++ after) ≡ take room (xs ++ waste)
 held kept room xs after [] l h =
     ap (λ n. take n (xs ++ after)) (sym l) ∙ take-append_seam xs after ∙ sym (append-nil xs) ∙ sym (take_all room (xs ++ []) (omega (arith, length-append xs [])))
 held kept room xs after (w ∷ ws) l h =
     let full : kept ≡ room = omega (arith, length-append xs (w ∷ ws)) in
     ap (λ n. take n (xs ++ after)) (sym l) ∙ take-append_seam xs after ∙ sym (take-append_seam xs (w ∷ ws)) ∙ ap (λ n. take n (xs ++ (w ∷ ws))) (l ∙ full)
 
--- A case is read: its head, what the space took of its file, and what was passed over.
-pub reads_case : (o a n : Option (List ℕ)) (head kept_bytes waste : List ℕ) (size room : ℕ) (case : Case) →
-    Consumes o a head → Consumes a n (kept_bytes ++ waste) → length head ≡ 12 → size ≡ number head 0 → length (kept_bytes ++ waste) ≡ size →
-    case.file.now ≡ take room (kept_bytes ++ waste) → case.entries ≡ number head 4 → case.bytes ≡ number head 8 →
-    Reads o n room case
-reads_case o a n head kept_bytes waste size room case c d h s l k e b =
-    record {
-      head = head;
-      file = kept_bytes ++ waste;
-      lost = Consumes-trans o a n head (kept_bytes ++ waste) c d;
-      head_long = h;
-      file_long = l ∙ s;
-      kept = k;
-      entries = e;
-      bytes = b;
-    }
+-- a head was read, and then m bytes into a part for `kept` bytes of a file of `size`
+pub record Begun (o a b : Option (List ℕ)) (head part : List ℕ) (room size kept m : ℕ) : Type 0 where
+  pub head_read : Consumes o a head
+  pub head_long : length head ≡ 12
+  pub is : size ≡ number head 0
+  pub held : kept ≡ min size room
+  pub part_long : length part ≡ kept
+  pub part_read : Consumes a b (take m part)
+  pub within : m ≤ length part
+
+module _ {o a b : Option (List ℕ)} {head part : List ℕ} {room size kept m : ℕ} (p : Begun o a b head part room size kept m) where
+  -- where the input ends within the file, there is no whole case
+  no_case : (rest : ℕ) → EndsBefore b rest → m + rest ≤ size → NoCase o
+  no_case rest e fits = go o a b p.head_read p.part_read e
+    where
+      go : (o a b : Option (List ℕ)) → Consumes o a head → Consumes a b (take m part) → EndsBefore b rest → NoCase o
+      go None a b c d e = tt
+      go (Some xs) None b c d e = absurd c
+      go (Some xs) (Some ys) None c d e = absurd d
+      go (Some xs) (Some ys) (Some zs) c d e =
+          let same : number xs 0 ≡ number head 0 = ap (λ l. number l 0) c ∙ number_front head ys 0 (omega (arith, p.head_long)) in
+          let read = length-take-le m part p.within in
+          λ long. omega (arith, ap length c, ap length d, length-append head ys, length-append (take m part) zs, same, p.head_long, p.is)
+
+  pub cut_short : m < kept → (m < length part → IsAtEnd b) → NoCase o
+  cut_short few end = no_case 1 (ends_before b 1 (end (omega (arith, p.part_long))) (omega arith)) (omega (arith, p.held))
+
+  pub ended : EndsBefore b (size - kept) → NoCase o
+  ended e = no_case (size - kept) e (omega (arith, p.within, p.part_long, p.held))
+
+  -- the whole case: its head, what the part took of its file, and what was passed over
+  pub read_whole : {new : Option (List ℕ)} {case : Case} (after : List ℕ) → kept ≤ m → Loses b new (size - kept) →
+      case.file.now ≡ take kept (part ++ after) → case.entries ≡ number head 4 → case.bytes ≡ number head 8 → Reads o new room case
+  read_whole {new} after all lost file entries bytes =
+      let whole : length (part ++ lost.0) ≡ size = omega (arith, length-append part lost.0, lost.2, p.part_long, p.held) in
+      record {
+        head = head;
+        file = part ++ lost.0;
+        lost = Consumes-trans o a new head (part ++ lost.0) p.head_read (Consumes-trans a b new part lost.0 (lost_whole a b m part (omega (arith, p.part_long)) p.part_read) lost.1);
+        head_long = p.head_long;
+        file_long = whole ∙ p.is;
+        kept = file ∙ held kept room part after lost.0 p.part_long (omega (arith, whole, p.held));
+        entries = entries;
+        bytes = bytes;
+      }

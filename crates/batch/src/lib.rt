@@ -19,6 +19,7 @@ pub fn room() -> [u8; 65537]
 }
 
 // The number of a head's four bytes from a place on.
+#[tactic(auto, unfolding(crate::specs::Batch::number))]
 fn number_at(head: [u8; 12], at: usize) -> usize
     requires { at + 4 ≤ 12 }
     ensures { result ≡ number head at }
@@ -27,6 +28,7 @@ fn number_at(head: [u8; 12], at: usize) -> usize
 }
 
 // Reads until the space is full or the input ends, and hands back how many bytes it put at the front of the space.
+#[tactic(auto, using(crate::proofs::Parts::read_more))]
 pub fn read_full<R: Read>(input: &mut R, space: &mut [u8]) -> io::Result<usize>
     ensures within { IfOk result (λ n. n ≤ length space.new) }
     ensures same_length { length space.new ≡ length space.old }

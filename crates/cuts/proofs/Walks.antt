@@ -1,8 +1,8 @@
--- Dated records that are gone through in the order of the days, transfers and conditions alike. Assumes nothing.
+-- A point's transfers and its conditions, each as far as they were gone through in the order of the days. Assumes nothing.
 use Prim.Native.Nat.{ℕ, ◌+◌, ◌-◌, ◌^◌, ◌≤◌, ◌<◌}
 use mathlib.Core.Path.{◌≡◌, refl, sym, ap}
 use mathlib.Core.Bool.{Bool, true, false, cond}
-use mathlib.Core.Logic.{◌⊎◌, inl, inr, ⊎_elim}
+use mathlib.Core.Logic.{◌⊎◌, inr, ⊎_elim}
 use mathlib.Core.List.{List, [], ◌∷◌}
 use native.Mathlib.Nat.{le_refl, eq-zero-or-pos}
 use native.Mathlib.Omega.{arith}
@@ -26,32 +26,25 @@ reading_some {here = here} {next} {day} {start = start} {n} {left = left} u a b 
     ⊎_elim (λ z. absurd (omega (arith, u.walk.ends, none_left here next day start n left u.at z))) (λ h. h) (eq-zero-or-pos left)
 
 -- the record that is ahead comes into force, and the one after it is read
-pub walked_next : {A R : Type 0} {here : ℕ → A} {wide : ℕ} {day : A → ℕ} {seen : R → A} {start n : ℕ} {all : ℕ → A} {i : ℕ} {before : A} {now : R} {at left end : ℕ} {r : InForce R} →
+walked_next : {A R : Type 0} {here : ℕ → A} {wide : ℕ} {day : A → ℕ} {seen : R → A} {start n : ℕ} {all : ℕ → A} {i : ℕ} {before : A} {now : R} {at left end : ℕ} {r : InForce R} →
     Reading here (λ at x. at + wide) day (λ x. x) start n all i before (seen now) at left end → 0 < left → end ≤ i → ReadAhead here wide day seen start n now at (left - 1) r →
     Walked here wide day seen start n all i r
 walked_next {day = day} u h a k = rw (k.now, k.left) (reading_next u h (k.ahead, k.next) (ap day (sym k.ahead)) k.end a)
 
--- THE LOOP over the records that have come: whatever `has` says of where it began it says of where it is, and fewer are left once it has gone on
-pub record Passed {S F : Type 0} (has : F → S → Type 0) (left : S → ℕ) (from to : S) : Type 0 where
-  pub still : (all : F) → has all from → has all to
-  pub fewer : left to ≤ left from
-  pub gone : (to ≡ from) ⊎ (left to < left from)
+-- THE LOOP over the records that have come: it goes by the same records as where it began, and fewer are left once it has gone on
+pub record Passed {A R : Type 0} (here : ℕ → A) (wide : ℕ) (day : A → ℕ) (seen : R → A) (start n i : ℕ) (from to : InForce R) : Type 0 where
+  pub still : (all : ℕ → A) → Walked here wide day seen start n all i from → Walked here wide day seen start n all i to
+  pub fewer : to.left ≤ from.left
+  pub gone : (to ≡ from) ⊎ (to.left < from.left)
 
-pub passed_none : {S F : Type 0} {has : F → S → Type 0} {left : S → ℕ} {from : S} → Passed has left from from
-passed_none = record { still = λ all h. h; fewer = le_refl _; gone = inl refl }
-
-module _ {S F : Type 0} {has : F → S → Type 0} {left : S → ℕ} {from to : S} (u : Passed has left from to) where
-  pub passed_more : {more : S} → ((all : F) → has all to → has all more) → 0 < left to → left more ≡ left to - 1 → Passed has left from more
-  passed_more on some less =
-      record {
-        still = λ all h. on all (u.still all h);
-        fewer = omega (arith, u.fewer);
-        gone = inr (omega (arith, u.fewer));
-      }
-
-  -- where it had to go on
-  pub passed_fewer : (end : S → ℕ) {i : ℕ} → i < end to → end from ≤ i → left to < left from
-  passed_fewer end a b = ⊎_elim (λ e. absurd (omega (arith, ap end e))) (λ l. l) u.gone
+pub passed_more : {A R : Type 0} {here : ℕ → A} {wide : ℕ} {day : A → ℕ} {seen : R → A} {start n i : ℕ} {from to more : InForce R} → Passed here wide day seen start n i from to →
+    0 < to.left → to.end ≤ i → ReadAhead here wide day seen start n to.ahead to.next.at (to.left - 1) more → Passed here wide day seen start n i from more
+passed_more u some a k =
+    record {
+      still = λ all h. walked_next (u.still all h) some a k;
+      fewer = omega (arith, u.fewer, k.left);
+      gone = inr (omega (arith, u.fewer, k.left));
+    }
 
 -- THE FIRST transfer is in force from the first day on
 module _ {file : List ℕ} {count at start : ℕ} (n : ℕ) (sound : SoundTransfers file count at start) {t : Transfer} {past : ℕ} (read : (t ≡ transfer_at file at) × (past ≡ after_transfer at)) where

@@ -3,14 +3,14 @@ use Prim.Native.Nat.{ℕ, ◌+◌, ◌-◌, ◌*◌, ◌^◌, ◌≤◌, ◌<◌
 use mathlib.Core.Path.{◌≡◌, refl, sym, ap, ◌∙◌}
 use mathlib.Core.List.{List, [], ◌∷◌}
 use native.Mathlib.Nat.{mul-le-mul, mul-le-mul_left}
-use native.Mathlib.Decide.{dec_lt}
 use native.Mathlib.Omega.{arith}
 use lib.ListN.{length}
 use Rattle.rules.specs.declared.Band.{Band}
 use Rattle.rules.specs.declared.MeterHead.{MeterHead}
-use Rattle.rules.specs.Sums.{over}
+use Rattle.std.proofs.lemmas.Bool.Decides.{nat_tests}
+use Rattle.rules.specs.Sums.{only, over}
 use Rattle.rules.specs.Lists.{All}
-use Rattle.rules.specs.File.{Meter, meter_head_at, reads, reads_from, after_reads, meter_at, after_meter}
+use Rattle.rules.specs.File.{Meter, meter_head_at, reads, reads_from, meter_at}
 use Rattle.rules.specs.Litres.{meter_litres}
 use Rattle.rules.specs.Charges.{band_for}
 use Rattle.rules.specs.Good.{GoodBand, GoodMeter}
@@ -19,7 +19,7 @@ use Rattle.rules.proofs.Sums.{days_each}
 use Rattle.spans.specs.declared.Figures.{Figures}
 use Rattle.spans.specs.declared.Span.{Span}
 use Rattle.spans.specs.Spans.{Sums, end_in, begin_in, Cut, Sum, litres_sum, annual_sum, allowance_sum, threshold_sum, sum_in, Kept, figure_of, during, over_span, Grown, Room}
-use Rattle.spans.proofs.Days.{during_in, during_zero, during_entry, span_within, begin_same, end_same, over_same, cut_kept, kept_all, kept_both, grown_on, room_on, over_eq, over_le, over_add, over_none, over_is}
+use Rattle.spans.proofs.Days.{during_zero, during_entry, span_within, begin_same, end_same, over_same, cut_kept, reached_first, kept_all, kept_both, grown_on, room_on, over_eq, over_le, over_add, over_none, over_is}
 use Rattle.meters.specs.Meters.{meter_of, weighed, Weights, meter_figure, sum_with, GrownWith, RoomWith, SumsClear, MetersIn}
 use Rattle.meters.proofs.Advances.{litres_at}
 use Rattle.meters.proofs.Bounds.{Figure, annual_figure, allowance_figure, threshold_figure, band_most, meters_most}
@@ -77,7 +77,8 @@ module _ (start first last : ℕ) (each every : Figures) {n : ℕ} {spans : List
     -- or they are on all days, of which there is one
     module _ (all : (from ≡ 0) × (to ≡ n) × (0 < to)) where
       on_day : (q : Sum) (i : ℕ) → i < n → on q i ≡ figure_of each q
-      on_day q i h = during_in first last _ (start + i) (omega (arith, all.0, all.1, all.2)) (omega (arith, all.0, all.1, all.2))
+      unfolding during only
+      on_day q i h = grind (arith, nat_tests, all.0, all.1, all.2)
 
       on_span : (q : Sum) (s : ℕ) → s < length spans → over_span spans s (on q) ≡ figure_of each q * (end_in spans s - begin_in spans s)
       unfolding over_span
@@ -86,11 +87,7 @@ module _ (start first last : ℕ) (each every : Figures) {n : ℕ} {spans : List
           ∙ sym (days_each (figure_of each q) (begin_in spans s) (end_in spans s - begin_in spans s))
 
       some_span : 0 < length spans
-      unfolding begin_in
-      some_span = elim (dec_lt 0 (length spans)) [
-        | yes lt ↦ lt
-        | no ge ↦ let z : length spans ≡ 0 = omega arith in absurd (omega (arith, all.1, all.2, cut.all, ap (begin_in spans) z))
-      ]
+      some_span = grind (arith, (reached_first spans (length spans) 0).begun, cut.all, all.1, all.2)
 
       sum_fits : RoomWith every spans (length spans) on → (q : Sum) → figure_of every q + figure_of each q < 2 ^ 64
       unfolding sum_with
@@ -123,9 +120,6 @@ module _ (file : List ℕ) (at : ℕ) {next : ℕ} {head : MeterHead} (e : (head
   meter_is : meter_of head (reads file head.reads next) ≡ meter_at file at
   meter_is = rw (e.0, e.1)
 
-  meter_after : after_reads next (reads file head.reads next) ≡ after_meter at (meter_at file at)
-  meter_after = rw (e.0, e.1)
-
   module _ (bs : List Band) {band : Band} (q : band ≡ band_for bs head.size) where
     weight_fits : {figure : Band → ℕ} → Figure figure → All GoodBand bs → GoodMeter (meter_at file at) → figure band * head.share ≤ 100000000000
     weight_fits {figure} f all g =
@@ -154,24 +148,19 @@ module _ (file : List ℕ) (at : ℕ) {next : ℕ} {head : MeterHead} (e : (head
       parts_are allowance_sum i = omega (arith, weighed_is (λ b. b.allowance) w.allowance (start + i))
       parts_are threshold_sum i = omega (arith, weighed_is (λ b. b.threshold) w.threshold (start + i))
 
-      module _ {n : ℕ} (every : Figures) {spans : List Span} (cut : Cut spans n (length spans))
-          (r : RoomWith every spans (length spans) (λ s i. meter_figure bs s (meter_at file at) (start + i))) where
+      module _ (every : Figures) {spans : List Span} where
         -- what its reads ask
-        pub meter_asks : after_meter at (meter_at file at) < 2 ^ 32 → GoodMeter (meter_at file at) →
-            (after_reads next (reads file head.reads next) < 2 ^ 32) × ((GoodMeter (meter_of head (reads file head.reads next)) × Cut spans n (length spans)) × Room spans (length spans) litres)
-        meter_asks small g = (
-          rw meter_after small,
-          ((rw meter_is g, cut), room_alone every (room_less every r (λ s i. omega (arith, parts_are s i)))),
-        )
+        pub reads_room : RoomWith every spans (length spans) (λ s i. meter_figure bs s (meter_at file at) (start + i)) → Room spans (length spans) litres
+        reads_room r = room_alone every (room_less every r (λ s i. omega (arith, parts_are s i)))
 
-        module _ {after : List Span} {end : ℕ} (read : (end ≡ after_reads next (reads file head.reads next)) × Grown spans after (length spans) litres) where
+        module _ {after : List Span} (read : Grown spans after (length spans) litres) where
           -- what its figures ask
-          pub during_asks : Cut after n (length after) × RoomWith every after (length after) figures
-          during_asks = (cut_kept read.1.kept cut, room_after (grown_with every read.1) r parts_are)
+          pub figures_room : RoomWith every spans (length spans) (λ s i. meter_figure bs s (meter_at file at) (start + i)) → RoomWith every after (length after) figures
+          figures_room r = room_after (grown_with every read) r parts_are
 
           pub meter_added : {last : List Span} {more : Figures} → GrownWith every more after last (length after) figures →
-              (end ≡ after_meter at (meter_at file at)) × GrownWith every more spans last (length spans) (λ s i. meter_figure bs s (meter_at file at) (start + i))
-          meter_added g = (read.0 ∙ meter_after, with_both (grown_with every read.1) g parts_are)
+              GrownWith every more spans last (length spans) (λ s i. meter_figure bs s (meter_at file at) (start + i))
+          meter_added g = with_both (grown_with every read) g parts_are
 
 -- METERS: what is left of a point's meters; `all` are all of them
 abbrev pub meters_of : List Band → List Meter → ℕ → Sum → ℕ → ℕ

@@ -18,7 +18,7 @@ use Rattle.records.proofs.Positions.{length_records}
 use Rattle.records.proofs.Ahead.{Ahead, read_one, read_past, ahead_done}
 use Rattle.spans.specs.declared.Span.{Span}
 use Rattle.spans.specs.Spans.{end_in, Cut, Reached, Holds, SumsAdded, RoomAt, Sum, litres_sum, annual_sum, allowance_sum, threshold_sum, litres_of, during, Grown, Room}
-use Rattle.spans.proofs.Days.{during_none, during_zero, during_entry, span_within, grown_on, grown_none, room_on, Adding, adding_none, adding_room, adding_more, adding_done, reached_first, kept_all, cut_kept, reached_kept, reached_before, Rest, rest_all, rest_room, rest_more, rest_none}
+use Rattle.spans.proofs.Days.{during_zero, during_entry, span_within, grown_on, grown_none, room_on, adding_none, adding_room, adding_more, adding_done, reached_first, cut_kept, reached_kept, reached_before, Rest, rest_all, rest_room, rest_more, rest_none}
 use Rattle.meters.specs.declared.advance.Advance.{Advance}
 use Rattle.meters.specs.Spreadable.{Spreadable}
 use Rattle.meters.specs.Meters.{carried, spread, spread_of, meter_of, AdvanceOf}
@@ -26,25 +26,15 @@ use Rattle.meters.specs.Meters.{carried, spread, spread_of, meter_of, AdvanceOf}
 -- WHAT THE FIRST DAYS CARRY
 pub carried_none : (litres parts n : ℕ) {j : ℕ} → j ≡ 0 → 0 ≡ carried_before litres parts n j
 unfolding carried_before
-carried_none litres parts n z = sym (ap (λ j. litres * parts * j / (10000 * n)) z ∙ ap (λ x. x / (10000 * n)) (mul-zero (litres * parts)) ∙ zero-div (10000 * n))
+carried_none litres parts n z = rw z (simp (mul-zero, zero-div))
 
 pub carried_all : (litres parts n : ℕ) {j : ℕ} → 0 < n → j ≡ n → litres * parts / 10000 ≡ carried_before litres parts n j
 unfolding carried_before
-carried_all litres parts n h e = sym (ap (λ j. litres * parts * j / (10000 * n)) e ∙ mul-div-mul_right {m = n} (litres * parts) 10000 h)
-
-pub carried_is : (litres parts n j : ℕ) → litres * parts * j / (10000 * n) ≡ carried_before litres parts n j
-unfolding carried_before
-carried_is litres parts n j = refl
+carried_all litres parts n h e = rw e (sym (mul-div-mul_right {m = n} (litres * parts) 10000 h))
 
 pub carried_grows : (litres parts n x y : ℕ) → x ≤ y → carried_before litres parts n x ≤ carried_before litres parts n y
 unfolding carried_before
 carried_grows litres parts n x y h = div_mono (10000 * n) (mul-le-mul_left (litres * parts) h)
-
-pub amount_fits : {litres parts first last : ℕ} → Spreadable litres parts first last → litres * parts ≤ 1000000000000000
-amount_fits s = omega (arith, mul-le-mul s.few s.whole)
-
-pub product_fits : {litres parts first last : ℕ} (j : ℕ) → Spreadable litres parts first last → j ≤ 3660 → litres * parts * j ≤ 3660000000000000000
-product_fits j s h = omega (arith, mul-le-mul (amount_fits s) h)
 
 -- litres of an entry's day, as one of the sums
 abbrev pub litres_at : ℕ → (ℕ → ℕ) → Sum → ℕ → ℕ
@@ -60,33 +50,18 @@ module _ (a : Advance) where
   abbrev pub carried_on : ℕ → ℕ
   carried_on d = carried a.litres a.parts a.first a.last d
 
-  carried_as : (x y : ℕ) → x ≡ y → carried_before a.litres a.parts (a.last - a.first) x ≡ carried_before a.litres a.parts (a.last - a.first) y
-  carried_as x y e = ap (carried_before a.litres a.parts (a.last - a.first)) e
-
   pub carried_later : {x y up below : ℕ} → below ≡ carried_to x → up ≡ carried_to y → x ≤ y → below ≤ up
   carried_later {x} {y} b u h = omega (arith, carried_grows a.litres a.parts (a.last - a.first) (x - a.first) (y - a.first) (omega arith))
 
   days_carry : (d k : ℕ) → a.first ≤ d → carried_to (d + k) ≡ carried_to d + over_days d k carried_on
   unfolding over_days carried
-  days_carry d zero h = omega (arith, carried_as (d + 0 - a.first) (d - a.first) (omega arith))
-  days_carry d (suc k) h =
-      omega (
-        arith,
-        days_carry d k h,
-        carried_as (d + suc k - a.first) (d + k - a.first + 1) (omega arith),
-        carried_grows a.litres a.parts (a.last - a.first) (d + k - a.first) (d + k - a.first + 1) (omega arith),
-      )
+  days_carry d zero h = grind arith
+  days_carry d (suc k) h = grind (arith, days_carry d k h, carried_grows a.litres a.parts (a.last - a.first) (d + k - a.first) (d + k - a.first + 1) (omega arith))
 
   -- those of the entries from i on, before `stop`, as one of the sums; the day of entry i is start + i
   pub piece_is : (start i stop : ℕ) {x up below : ℕ} → a.first ≤ start + i → i ≤ stop → x ≡ up - below → up ≡ carried_to (start + stop) → below ≡ carried_to (start + i) →
       (q : Sum) → litres_of x q ≡ over_days i (stop - i) (litres_at start carried_on q)
-  piece_is start i stop h k e u b litres_sum =
-      omega (
-        arith,
-        days_carry (start + i) (stop - i) h,
-        carried_as (start + i + (stop - i) - a.first) (start + stop - a.first) (omega arith),
-        days_shift start i (stop - i) carried_on,
-      )
+  piece_is start i stop h k e u b litres_sum = grind (arith, days_carry (start + i) (stop - i) h, days_shift start i (stop - i) carried_on)
   piece_is start i stop h k e u b annual_sum = sym (days_none _ _)
   piece_is start i stop h k e u b allowance_sum = sym (days_none _ _)
   piece_is start i stop h k e u b threshold_sum = sym (days_none _ _)

@@ -1,4 +1,4 @@
-// The litres between two successive reads, by value. It stands in a file of its own since what is said of an advance cites it.
+// An advance by value. It has a file of its own since specs/Meters speaks of it, and what is imported beside a ghost field may not.
 ghost use Rattle.meters.specs.Spreadable.{Spreadable};
 
 // So many litres from a day on, before another, of which `parts` ten-thousandths count: share × return.

@@ -23,6 +23,7 @@ use spans::{Figures, Span, add_figures, add_litres, span_with};
 
 // What the days of an advance before a day carry. Before the first they carry nothing and before the last day's end all of it, where nothing is
 // divided by the number of days.
+#[tactic(auto, unfolding(rules::specs::Litres::carried_before))]
 fn carried_before(a: Advance, day: u64) -> u64
     requires { day ≤ a.last }
     ensures { result ≡ carried_before a.litres a.parts (a.last - a.first) (day - a.first) }

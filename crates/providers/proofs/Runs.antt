@@ -21,7 +21,7 @@ use Rattle.charged.specs.Charged.{first_entry}
 use Rattle.providers.specs.Runs.{SoundTransfers, Walk, Reading}
 
 -- the entry of the first of some dated records is one of n days, or n
-pub first_within : {A : Type 0} (day : A → ℕ) (n start : ℕ) (xs : List A) → first_entry day n start xs ≤ n
+first_within : {A : Type 0} (day : A → ℕ) (n start : ℕ) (xs : List A) → first_entry day n start xs ≤ n
 unfolding first_entry
 first_within day n start [] = omega arith
 first_within day n start (x ∷ xs) = omega arith

@@ -1,15 +1,13 @@
 -- What is written to one span. Assumes nothing.
 use Prim.Native.Nat.{ℕ, ◌+◌, ◌*◌, ◌<◌}
-use mathlib.Core.Path.{◌≡◌, refl, ap, ◌∙◌}
-use mathlib.Core.Logic.{◌⊎◌, inl, inr}
+use mathlib.Core.Path.{◌≡◌, refl, ◌∙◌}
 use mathlib.Core.List.{List}
 use native.Mathlib.Omega.{arith}
-use borrow.Author.Tests.{eq-eqb, ne_eqb}
+use Rattle.std.proofs.lemmas.Bool.Decides.{nat_tests}
 use lib.ListN.{length, set, length-set}
 use lib.Seq.{get_or-set_same, get_or-set_other}
 use lib.Dec.{eqb}
 use Rattle.rules.specs.Sums.{only}
-use Rattle.rules.proofs.Lists.{three}
 use Rattle.records.specs.declared.Groups.{Groups}
 use Rattle.spans.specs.declared.Figures.{Figures}
 use Rattle.spans.specs.declared.Span.{Span}
@@ -37,16 +35,12 @@ module _ (spans : List Span) (s : ℕ) (span : Span) (x : Sum → ℕ) (within :
   after = set spans s span
 
   -- what is kept of this span is kept of all
-  all_kept : {A : Type 0} (of : Span → A) → of span ≡ of (span_in spans s) → (t : ℕ) → (t < s) ⊎ ((t ≡ s) ⊎ (s < t)) → of (span_in after t) ≡ of (span_in spans t)
-  all_kept of e t (inl l) = ap of (written_else spans s span t (omega arith))
-  all_kept of e t (inr (inl q)) = rw q (ap of (written_here spans s span within) ∙ e)
-  all_kept of e t (inr (inr g)) = ap of (written_else spans s span t (omega arith))
+  all_kept : {A : Type 0} (of : Span → A) → of span ≡ of (span_in spans s) → (t : ℕ) → of (span_in after t) ≡ of (span_in spans t)
+  all_kept of e t = grind (arith, written_here spans s span within, written_else spans s span t, e)
 
-  all_more : (q : Sum) (t : ℕ) → (t < s) ⊎ ((t ≡ s) ⊎ (s < t)) → sum_in after q t ≡ sum_in spans q t + only (eqb t s) (x q)
+  all_more : (q : Sum) (t : ℕ) → sum_in after q t ≡ sum_in spans q t + only (eqb t s) (x q)
   unfolding only
-  all_more q t (inl l) = simp (ne_eqb t s (omega arith)) (omega (arith, ap (λ v. sum_of v q) (written_else spans s span t (omega arith))))
-  all_more q t (inr (inl e)) = rw e (ap (λ v. sum_of v q) (written_here spans s span within) ∙ more q ∙ simp (eq-eqb s s refl))
-  all_more q t (inr (inr g)) = simp (ne_eqb t s (omega arith)) (omega (arith, ap (λ v. sum_of v q) (written_else spans s span t (omega arith))))
+  all_more q t = grind (arith, nat_tests, written_here spans s span within, written_else spans s span t, more q)
 
   sums_added : SumsAdded spans after s x
   sums_added =
@@ -54,11 +48,11 @@ module _ (spans : List Span) (s : ℕ) (span : Span) (x : Sum → ℕ) (within :
         kept =
             record {
               long = length-set spans s span;
-              ends = λ t. all_kept (λ v. v.end) ends t (three t s);
-              owners = λ t. all_kept (λ v. v.provider) owner t (three t s);
-              groups = λ t. all_kept (λ v. v.groups) groups t (three t s);
+              ends = all_kept (λ v. v.end) ends;
+              owners = all_kept (λ v. v.provider) owner;
+              groups = all_kept (λ v. v.groups) groups;
             };
-        sums = λ q t. all_more q t (three t s);
+        sums = all_more;
       }
 
 module _ (spans : List Span) (s : ℕ) (within : s < length spans) where

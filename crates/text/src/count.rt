@@ -29,6 +29,7 @@ impl Sink for Count {
 }
 
 // How many digits a number has: one more than the power of ten that it reaches. 0 has one too.
+#[tactic(auto, using(crate::proofs::Decimal::length_one, crate::proofs::Decimal::length_power))]
 pub(crate) fn digits(n: u64) -> usize
     ensures { result ≡ length (decimal n) }
 {

@@ -38,6 +38,7 @@ impl<'a> Sink for Space<'a> {
         self.at = after;
     }
 
+    #[tactic(auto, using(crate::proofs::Decimal::standard, crate::specs::Puts::put_parts))]
     fn number(&mut self, n: u64) {
         let end = self.at + digits(n);
         let space = &mut *self.bytes;

@@ -12,32 +12,25 @@ use Rattle.rules.specs.declared.Header.{Header}
 use Rattle.rules.specs.declared.Breach.{Breach}
 use Rattle.rules.specs.Numbered.{number_of, refusal_of, one_number}
 use Rattle.rules.specs.declared.Row.{Row}
-use Rattle.rules.specs.File.{Tariff, Point, header_at, decode}
+use Rattle.rules.specs.File.{Tariff, Point, File, decode}
 use Rattle.rules.specs.Lists.{All}
 use Rattle.rules.specs.Refusal.{first_or, refusal}
-use Rattle.rules.specs.Settlement.{rows, row_and, clear_row, providers_of, provider_at, plus}
+use Rattle.rules.specs.Settlement.{rows, row_and, clear_row, providers_of}
 use Rattle.rules.specs.Report.{report_of, report}
 use Rattle.rules.specs.Services.{written, report_number, report_answer, report_after}
 use Rattle.rules.specs.Fits.{Fits, AllFit}
 use Rattle.rules.proofs.Lists.{all_map}
-use Rattle.rules.proofs.Kept.{accepted_good}
+use Rattle.rules.proofs.Accepted.{accepted as accepted_good}
+use Rattle.rules.proofs.Kept.{row_provider}
+use Rattle.providers.specs.declared.Accepted.{Accepted}
+use Rattle.records.proofs.Walk.{year_to_lem}
 use Rattle.settle.proofs.Rows.{rows_fit}
 use Rattle.unit.proofs.Refused.{some_number, first_refused}
-
--- the first of 64 rows, as many as a list has numbers
-pub own_table : (list : List ℕ) (row : Row) → length list ≤ 64 → length list ≡ length (take (length list) (replicate 64 row))
-own_table list row few = sym (length-take-le (length list) (replicate 64 row) (omega (arith, few, length-replicate 64 row)))
-
--- a row has the provider that it was cleared for
-provider_kept : (tariff : Tariff) (points : List Point) (row : Row) → (row_and tariff row points).provider ≡ row.provider
-unfolding row_and plus
-provider_kept tariff [] row = refl
-provider_kept tariff (point ∷ points) row = provider_kept tariff points (plus row (provider_at tariff point row.provider))
 
 numbered : (tariff : Tariff) (points : List Point) (list : List ℕ) → ((i : ℕ) → get_or list i 0 < 2 ^ 64) → All (λ row. row.provider < 2 ^ 64) (map (λ p. row_and tariff (clear_row p) points) list)
 unfolding clear_row
 numbered tariff points [] fits = tt
-numbered tariff points (p ∷ ps) fits = (rw (provider_kept tariff points (clear_row p)) (fits 0), numbered tariff points ps (λ i. fits (suc i)))
+numbered tariff points (p ∷ ps) fits = (rw (row_provider tariff points (clear_row p)) (fits 0), numbered tariff points ps (λ i. fits (suc i)))
 
 module _ (b : List ℕ) where
   -- a file that is refused, by the refusal's number
@@ -72,21 +65,33 @@ module _ (b : List ℕ) where
       go (suc m) z a x = absurd (omega arith)
   within (Err breach) space exit a r x = tt
 
-  -- an accepted file's report, by its rows: a table of as many entries becomes them alone
-  module _ (lent : List Row) (e : refusal b ≡ 0) {t : List Row} (w : t ≡ written 0 (rows (decode b)) lent) (long : length (rows (decode b)) ≡ length lent) where
-    pub only_rows : t ≡ rows (decode b)
-    unfolding written
-    only_rows = w ∙ (ap (λ xs. rows (decode b) ++ xs) (drop_all (length (rows (decode b))) lent (omega (arith, long))) ∙ append-nil (rows (decode b)))
+-- an accepted file's report, by its rows: a table of as many entries becomes them alone
+module _ (accepted : Accepted) where
+  abbrev file : File
+  file = decode accepted.file.bytes.now
 
+  pub only_rows : {n : ℕ} {t : List Row} (row : Row) → n ≡ length accepted.list.items → length (rows file) ≡ length accepted.list.items →
+      t ≡ written 0 (rows file) (take n (replicate 64 row)) → t ≡ rows file
+  unfolding written
+  only_rows {n} row e sized after =
+      let own = length-take-le n (replicate 64 row) (omega (arith, accepted.providers.few, length-replicate 64 row)) in
+      after ∙ (ap (λ xs. rows file ++ xs) (drop_all (length (rows file)) (take n (replicate 64 row)) (omega (arith, own))) ∙ append-nil (rows file))
+
+  pub year_fits : accepted.file.head.year < 2 ^ 64
+  year_fits = omega (arith, year_to_lem accepted.file.bytes.now (accepted_good accepted.file.bytes.now accepted.file.sound) (accepted.file.header, accepted.file.listed.0))
+
+  module _ {t : List Row} (is : t ≡ rows file) where
     pub rows_all_fit : AllFit t
     unfolding rows
-    rows_all_fit = subst AllFit (sym only_rows) (all_map Fits (λ p. row_and (decode b).tariff (clear_row p) (decode b).points) (rows_fit b (accepted_good b e)) (providers_of (decode b).tariff (decode b).points))
+    rows_all_fit =
+        let good = accepted_good accepted.file.bytes.now accepted.file.sound in
+        subst AllFit (sym is) (all_map Fits (λ p. row_and file.tariff (clear_row p) file.points) (rows_fit accepted.file.bytes.now good) (providers_of file.tariff file.points))
 
     -- each row's provider is one of the file's, which fit
-    pub rows_numbered : (list : List ℕ) → list ≡ providers_of (decode b).tariff (decode b).points → ((i : ℕ) → get_or list i 0 < 2 ^ 64) → All (λ row. row.provider < 2 ^ 64) t
+    pub rows_numbered : ((i : ℕ) → get_or accepted.list.items i 0 < 2 ^ 64) → All (λ row. row.provider < 2 ^ 64) t
     unfolding rows
-    rows_numbered list same fits = rw only_rows (numbered (decode b).tariff (decode b).points (providers_of (decode b).tariff (decode b).points) (rw same at fits))
+    rows_numbered fits = rw is (numbered file.tariff file.points (providers_of file.tariff file.points) (rw accepted.providers.is at fits))
 
-    pub report_is : {head : Header} → head ≡ header_at b → report_of head.service head.year t ≡ report (decode b)
+    pub report_is : report_of accepted.file.head.service accepted.file.head.year t ≡ report file
     unfolding report decode
-    report_is h = ap₂ (λ (head : Header) rows. report_of head.service head.year rows) h only_rows
+    report_is = ap₂ (λ (head : Header) rows. report_of head.service head.year rows) accepted.file.header is

@@ -16,10 +16,15 @@ use Rattle.rules.specs.File.{decode}
 use Rattle.rules.specs.Refusal.{first_or, refusal}
 use Rattle.rules.specs.Settlement.{rows, row_and, clear_row, providers_of}
 use Rattle.rules.specs.Services.{written, room_number, rows_number, RowsAnswer, rows_told, rows_answer, rows_after}
-use Rattle.rules.proofs.Kept.{accepted_good}
-use Rattle.figures.specs.Figures.{ProvidersOf}
-use Rattle.figures.proofs.Owners.{many}
+use Rattle.providers.specs.declared.Accepted.{Accepted}
 use Rattle.unit.proofs.Refused.{some_number, first_refused}
+
+-- there is a row for each provider
+pub sized_rows : (accepted : Accepted) → length (rows (decode accepted.file.bytes.now)) ≡ length accepted.list.items
+unfolding rows
+sized_rows accepted =
+    let file = decode accepted.file.bytes.now in
+    length-map (providers_of file.tariff file.points) (λ p. row_and file.tariff (clear_row p) file.points) ∙ sym (ap length accepted.providers.is)
 
 module _ (b : List ℕ) (table : List Row) where
   abbrev answer : List Row
@@ -43,23 +48,18 @@ module _ (b : List ℕ) (table : List Row) where
   unfolding rows_number
   refused breach e = none (number_of breach) (first_refused (refusal b) (number_of breach) _ e (some_number breach)) (some_number breach)
 
-  module _ {list : List ℕ} (e : refusal b ≡ 0) (of : ProvidersOf b list) where
-    -- there is a row for each provider
-    sized : length answer ≡ length list
-    unfolding rows
-    sized = length-map (providers_of (decode b).tariff (decode b).points) (λ p. row_and (decode b).tariff (clear_row p) (decode b).points) ∙ many b (accepted_good b e) of
-
+  module _ {count : ℕ} (e : 0 ≡ refusal b) (sized : length answer ≡ count) where
     -- TOO FEW ENTRIES
-    pub short : entries < length list → (rows_told (Err SpaceTooShort) ≡ rows_answer b entries) × (table ≡ rows_after b table)
+    pub short : entries < count → (rows_told (Err SpaceTooShort) ≡ rows_answer b entries) × (table ≡ rows_after b table)
     unfolding rows_number first_or room_number
     short h =
-        let few : entries < length answer = omega (arith, sized) in
-        none 14 (rw (e, first_or, lt-ltb entries (length answer) few)) (λ z. absurd (omega (arith, z)))
+        let few : entries < length answer = omega arith in
+        none 14 (rw (sym e, first_or, lt-ltb entries (length answer) few)) (λ z. absurd (omega (arith, z)))
 
     -- THE ROWS
-    pub enough : length list ≤ entries → {exit : List Row} → exit ≡ written 0 answer table → (rows_told (Ok (length list)) ≡ rows_answer b entries) × (exit ≡ rows_after b table)
+    pub enough : count ≤ entries → {exit : List Row} → exit ≡ written 0 answer table → (rows_told (Ok count) ≡ rows_answer b entries) × (exit ≡ rows_after b table)
     unfolding rows_number first_or room_number rows_after only
     enough h x =
-        let all : length answer ≤ entries = omega (arith, sized) in
-        let is : rows_number b entries ≡ 0 = rw (e, first_or, le-ltb entries (length answer) all) in
-        (answered 0 (length list) is sized, x ∙ ap (λ n. written n answer table) (sym is))
+        let all : length answer ≤ entries = omega arith in
+        let is : rows_number b entries ≡ 0 = rw (sym e, first_or, le-ltb entries (length answer) all) in
+        (answered 0 count is sized, x ∙ ap (λ n. written n answer table) (sym is))

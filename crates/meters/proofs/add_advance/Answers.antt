@@ -6,12 +6,9 @@ use Rattle.spans.proofs.Days.{adding_none, adding_asks, adding_room, adding_more
 use Rattle.meters.proofs.Advances.{carried_later, piece_is, entries_room, entries_grown}
 use Rattle.meters.proofs.add_advance.Goals as goal
 
-pub returns-then-to-i : goal.returns-then-to-i
-returns-then-to-i c =
-    record {
-      added = entries_grown _ c.args.a c.entry-i.ensures c.entry-to.ensures c.requires.cut (adding_done (adding_none _ _ (reached_kept kept_all c.requires.reached_2 (omega arith))) c.if-to-i.true);
-      reached = reached_kept kept_all c.requires.reached_2 (omega (arith, c.args.a.spreadable.some));
-    }
+pub returns-then-to-i-clause-added : goal.returns-then-to-i-clause-added
+returns-then-to-i-clause-added c =
+    entries_grown _ c.args.a c.entry-i.ensures c.entry-to.ensures c.requires.cut (adding_done (adding_none _ _ (reached_kept kept_all c.requires.reached_2 (omega arith))) c.if-to-i.true)
 
 pub loop-i-init : goal.loop-i-init
 loop-i-init c = (adding_none _ _ (reached_kept kept_all c.requires.reached_2 (omega arith)), c.carried_before-before.ensures)
@@ -35,9 +32,5 @@ loop-i-preserved c =
     let piece = piece_is c.args.a _ _ _ (omega arith) (omega arith) refl c.carried_before-up.ensures c.loop-i.invariant.1 in
     (adding_more c.loop-i.invariant.0 c.requires.cut c.loop-i-test.true c.span_with-s.ensures c.min-stop.ensures piece c.add_litres.ensures, c.carried_before-up.ensures)
 
-pub returns : goal.returns
-returns c =
-    record {
-      added = entries_grown _ c.args.a c.entry-i.ensures c.entry-to.ensures c.requires.cut (adding_done c.loop-i.invariant.0 c.loop-i-test.false);
-      reached = reached_kept kept_all c.loop-i.invariant.0.reached (omega arith);
-    }
+pub returns-clause-added : goal.returns-clause-added
+returns-clause-added c = entries_grown _ c.args.a c.entry-i.ensures c.entry-to.ensures c.requires.cut (adding_done c.loop-i.invariant.0 c.loop-i-test.false)

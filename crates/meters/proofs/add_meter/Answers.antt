@@ -1,34 +1,25 @@
 -- `meters::add_meter` meets its contract: its litres, and then its figures. Assumes nothing.
 use native.Mathlib.Omega.{arith}
 use Rattle.rules.specs.File.{meter_at}
-use Rattle.bands.specs.Bands.{bands_in}
 use Rattle.records.proofs.Positions.{meter_forward}
-use Rattle.meters.proofs.Adding.{weights_fit, meter_asks, during_asks, meter_added}
+use Rattle.spans.proofs.Days.{cut_kept}
+use Rattle.meters.proofs.Adding.{weights_fit, reads_room, figures_room, meter_added}
 use Rattle.meters.proofs.add_meter.Goals as goal
 
 pub meter-taken-requires : goal.meter-taken-requires
 meter-taken-requires c = let s = c.args in omega (arith, c.requires.at_bound, meter_forward s.c.at (meter_at s.file.now s.c.at))
 
-pub serving-band-requires : goal.serving-band-requires
-serving-band-requires c = let p = c.requires.good_bands in record { le_count = (p.some, p.ends, p.rising); sizes_of = p.sizes }
-
 pub figures_of-each-requires : goal.figures_of-each-requires
-figures_of-each-requires c = let s = c.args in weights_fit s.file.now s.c.at c.meter-taken.ensures (bands_in s.file.now s.bands.now) c.serving-band.ensures c.requires.good_bands.priced c.requires.good_meter.0
+figures_of-each-requires c = weights_fit _ _ c.meter-taken.ensures _ c.serving-band.ensures c.requires.good_bands.priced c.requires.good_meter.0
 
-pub add_reads-next-requires : goal.add_reads-next-requires
-add_reads-next-requires c =
-    let s = c.args in
-    let all = meter_asks s.file.now s.c.at c.meter-taken.ensures (bands_in s.file.now s.bands.now) c.serving-band.ensures c.figures_of-each.ensures s.days.from.0 s.every c.requires.good_meter.1 c.requires.room_with c.requires.at_bound c.requires.good_meter.0 in
-    record { at_bound = all.0; good_meter = all.1.0; room = all.1.1 }
+pub add_reads-next-requires-clause-room : goal.add_reads-next-requires-clause-room
+add_reads-next-requires-clause-room c = reads_room _ _ c.meter-taken.ensures _ c.serving-band.ensures c.figures_of-each.ensures _ _ c.requires.room_with
 
-pub add_during-more-requires : goal.add_during-more-requires
-add_during-more-requires c =
-    let s = c.args in
-    let both = during_asks s.file.now s.c.at c.meter-taken.ensures (bands_in s.file.now s.bands.now) c.serving-band.ensures c.figures_of-each.ensures s.days.from.0 s.every c.requires.good_meter.1 c.requires.room_with (c.add_reads-next.ensures.ends, c.add_reads-next.ensures.grown) in
-    record { cut = both.0; room_with = both.1 }
+pub add_during-more-requires-clause-cut : goal.add_during-more-requires-clause-cut
+add_during-more-requires-clause-cut c = cut_kept c.add_reads-next.ensures.grown.kept c.requires.good_meter.1
 
-pub returns : goal.returns
-returns c =
-    let s = c.args in
-    let both = meter_added s.file.now s.c.at c.meter-taken.ensures (bands_in s.file.now s.bands.now) c.serving-band.ensures c.figures_of-each.ensures s.days.from.0 s.every c.requires.good_meter.1 c.requires.room_with (c.add_reads-next.ensures.ends, c.add_reads-next.ensures.grown) c.add_during-more.ensures in
-    record { ends = both.0; added = both.1 }
+pub add_during-more-requires-clause-room_with : goal.add_during-more-requires-clause-room_with
+add_during-more-requires-clause-room_with c = figures_room _ _ c.meter-taken.ensures _ c.serving-band.ensures c.figures_of-each.ensures _ _ c.add_reads-next.ensures.grown c.requires.room_with
+
+pub returns-clause-added : goal.returns-clause-added
+returns-clause-added c = meter_added _ _ c.meter-taken.ensures _ c.serving-band.ensures c.figures_of-each.ensures _ _ c.add_reads-next.ensures.grown c.add_during-more.ensures

@@ -10,9 +10,6 @@ use Rattle.meters.proofs.counts_between.Goals as goal
 pub overflow_add-result : goal.overflow_add-result
 overflow_add-result c = let p = c.requires in let fits = advance_fits c.args.dial.of p.0 p.1 p.2 in omega (arith, c.only.ensures)
 
-pub overflow_sub-result : goal.overflow_sub-result
-overflow_sub-result c = let p = c.requires in let fits = advance_fits c.args.dial.of p.0 p.1 p.2 in omega (arith, c.only.ensures)
-
 pub returns : goal.returns
 unfolding advance litres_per_count
 returns c =

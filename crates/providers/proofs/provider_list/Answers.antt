@@ -1,12 +1,10 @@
 -- `providers::provider_list` meets its contract: the list so far, with the providers of the points that are left, has those of all. Assumes nothing.
 use Prim.Native.Nat.{◌-◌, ◌<◌}
-use mathlib.Core.Path.{ap, sym}
+use mathlib.Core.Path.{ap}
 use native.Mathlib.Nat.{sub-zero}
 use Rattle.rules.specs.Numbered.{number_of}
-use Rattle.rules.specs.Refusal.{when}
 use native.Mathlib.Omega.{arith}
-use lib.ListN.{length}
-use borrow.Author.Tests.{lt-ltb, le-ltb}
+use borrow.Author.Tests.{lt-ltb}
 use Rattle.rules.proofs.Exits.{handed_on}
 use Rattle.rules.proofs.Accepted.{accepted}
 use Rattle.records.proofs.Walk.{point_here, point_within}
@@ -30,6 +28,3 @@ loop-preserved c = listing_next _ c.loop.invariant (omega arith) (omega arith) (
 
 pub invariant_of-result : goal.invariant_of-result
 invariant_of-result c = record { providers = record { few = c.loop.providers.few; is = listing_done _ c.loop.invariant (omega arith) } }
-
-pub returns-clause-number : goal.returns-clause-number
-returns-clause-number c = sym (ap (λ b. when b 13 0) (le-ltb 64 _ (omega (arith, ap length (listing_done _ c.loop.invariant (omega arith)), c.loop.providers.few))))

@@ -10,8 +10,7 @@ returns-then-space-length c = too_short _ _ (omega arith)
 
 pub put-requires : goal.put-requires
 put-requires c =
-    let report = c.args.self.now in
-    let most = report_most report.service report.year report.rows.now report.few report.fit report.numbers in
+    let most = report_most c.args.self.now in
     let same = ap length c.new-sink.ensures.holds in
     elim c.if-space-lt-LONGEST.branch [ then-space-lt-LONGEST+else-space-length w ↦ omega arith | else-space-lt-LONGEST w ↦ omega arith ]
 
