@@ -101,11 +101,8 @@ fn print_statements<W: Write>(out: &mut W, case: Case) -> io::Result<()> {
 }
 
 fn print_report<W: Write>(out: &mut W, case: Case) -> io::Result<()> {
-    let mut space = [0u8; BYTES];
+    let mut space: [u8; BYTES] = array::from_fn(byte_found);
     let lent = &mut space[..case.bytes.min(BYTES)];
-    for (place, byte) in lent.iter_mut().enumerate() {
-        *byte = byte_found(place);
-    }
     let (answer, end) = match unit::settlement_report(case.file, lent) {
         Ok(length) => (length as u64, length),
         Err(breach) => (breach.number(), 0),

@@ -1,5 +1,6 @@
 #![tactic(auto)]
 // Prints the number of each file of a batch, a line each.
+use rules::Breach;
 use std::io;
 use std::io::Write;
 
@@ -7,10 +8,7 @@ fn main(rt: HostRuntime) -> io::Result<()> {
     let mut input = rt.stdin();
     let mut out = rt.stdout();
     batch::for_each_case(&mut input, |_, case| {
-        let number = match format::check(case.file) {
-            Ok(_) => 0,
-            Err(breach) => breach.number(),
-        };
+        let number = format::check(case.file).err().map_or(0, Breach::number);
         writeln!(out, "{number}")
     })
 }

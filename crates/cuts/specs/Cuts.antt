@@ -54,10 +54,10 @@ Held file start n on i h = Walked (condition_at file) 72 (λ c. c.day) condition
 abbrev pub span_condition : List Span → ℕ → Condition
 span_condition spans s = condition_of (span_in spans s).groups
 
--- n days are cut into m spans, each of one owner and one condition, without sums
-pub record CutBy (spans : List Span) (n m : ℕ) (owner : ℕ → ℕ) (on : ℕ → Condition) : Type 0 where
-  pub long : length spans ≡ 72
-  pub cut : Cut spans n m
-  pub owners : (s i : ℕ) → s < m → begin_in spans s ≤ i → i < end_in spans s → (span_in spans s).provider ≡ owner i
-  pub conditions : (s i : ℕ) → s < m → begin_in spans s ≤ i → i < end_in spans s → span_condition spans s ≡ on i
-  pub clear : (q : Sum) (s : ℕ) → s < m → sum_in spans q s ≡ 0
+-- n days are cut into spans, each of one owner and one condition, without sums
+pub record CutBy (spans : List Span) (n : ℕ) (owner : ℕ → ℕ) (on : ℕ → Condition) : Type 0 where
+  pub few : length spans ≤ 72
+  pub cut : Cut spans n (length spans)
+  pub owners : (s i : ℕ) → s < length spans → begin_in spans s ≤ i → i < end_in spans s → (span_in spans s).provider ≡ owner i
+  pub conditions : (s i : ℕ) → s < length spans → begin_in spans s ≤ i → i < end_in spans s → span_condition spans s ≡ on i
+  pub clear : (q : Sum) (s : ℕ) → s < length spans → sum_in spans q s ≡ 0

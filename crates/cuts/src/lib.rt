@@ -7,19 +7,13 @@ ghost use Rattle.records.specs.Conditions.{condition_of};
 ghost use Rattle.providers.specs.Runs.{SoundTransfers};
 ghost use Rattle.cuts.specs.Cuts.{Walked, ReadAhead, Owns, Held, transfer_in, owner_of, condition_in, SoundConditions, CutBy};
 
-use bits::Cursor;
+use arrayvec::ArrayVec;
+use bits::{Cursor, Taken};
 use charged::Charged;
 use providers::run_end;
-use records::{Groups, Records};
+use records::{Groups, PointLists, Records};
 use rules::{Condition, Transfer};
-use spans::{MOST_SPANS, Span, set_span};
-
-// A point's transfers and conditions.
-#[derive(Clone, Copy)]
-pub struct Lists {
-    pub transfers: Records,
-    pub conditions: Records,
-}
+use spans::{MOST_SPANS, Span, add_span};
 
 // A record of a list whose days ascend, as the file has it, and as the rules see it.
 trait Dated: Copy {
@@ -34,9 +28,9 @@ trait Dated: Copy {
     ghost day_of: { Self.Seen → ℕ };
 
     // The record at a cursor, and the cursor after it.
-    fn read(file: &[u8], c: Cursor) -> (Self, Cursor)
+    fn read(file: &[u8], c: Cursor) -> Taken<Self>
         requires { c.at < 2 ^ 32 }
-        ensures { (seen result.0 ≡ here file.now c.at) × (result.1.at ≡ c.at + wide) };
+        ensures { (seen result.value ≡ here file.now c.at) × (result.next.at ≡ c.at + wide) };
 
     fn day(&self) -> u64
         ensures { result ≡ day_of (seen self.now) };
@@ -53,9 +47,8 @@ impl Dated for Transfer {
 
     ghost day_of = { λ t. t.day };
 
-    fn read(file: &[u8], c: Cursor) -> (Transfer, Cursor) {
-        let taken = records::transfer(file, c);
-        (taken.value, taken.next)
+    fn read(file: &[u8], c: Cursor) -> Taken<Transfer> {
+        records::transfer(file, c)
     }
 
     fn day(&self) -> u64 {
@@ -74,9 +67,8 @@ impl Dated for Groups {
 
     ghost day_of = { λ c. c.day };
 
-    fn read(file: &[u8], c: Cursor) -> (Groups, Cursor) {
-        let taken = records::condition_groups(file, c);
-        (taken.value, taken.next)
+    fn read(file: &[u8], c: Cursor) -> Taken<Groups> {
+        records::condition_groups(file, c)
     }
 
     fn day(&self) -> u64 {
@@ -100,7 +92,9 @@ fn in_force<R: Dated>(file: &[u8], days: Charged, now: R, c: Cursor, left: u64) 
     requires { c.at < 2 ^ 32 }
     ensures { ReadAhead (R.here file.now) R.wide R.day_of R.seen days.from.0 days.count.0 now c.at left result }
 {
-    let (ahead, next) = R::read(file, c);
+    let taken = R::read(file, c);
+    let ahead = taken.value;
+    let next = taken.next;
     let end = run_end(left, days, ahead.day());
     InForce {
         now,
@@ -142,24 +136,27 @@ fn no_condition(file: &[u8], list: Records, days: Charged) -> InForce<Groups>
     in_force(file, days, Groups::default(), list.first, list.count)
 }
 
-// The spans of a point's charged days, with no sums: how many there are. A point has at most 24 transfers and 48 conditions, and so at most 72 spans.
-pub fn cut_days(file: &[u8], lists: Lists, days: Charged, spans: &mut [Span; MOST_SPANS]) -> usize
+// The spans of a point's charged days, with no sums. A point has at most 24 transfers and 48 conditions, and so at most 72 spans.
+pub fn cut_days(
+    file: &[u8],
+    lists: PointLists,
+    days: Charged,
+    spans: &mut ArrayVec<Span, MOST_SPANS>,
+)
     requires sound_transfers { SoundTransfers file.now lists.transfers.count lists.transfers.first.at days.from.0 × (lists.transfers.count ≤ 24) }
     requires sound_conditions { SoundConditions file.now lists.conditions.count lists.conditions.first.at × (lists.conditions.count ≤ 48) }
-    ensures { CutBy spans.new days.count.0 result (owner_of file.now lists.transfers.count lists.transfers.first.at days.from.0) (condition_in file.now lists.conditions.count lists.conditions.first.at days.from.0) }
+    ensures { CutBy spans.new.items days.count.0 (owner_of file.now lists.transfers.count lists.transfers.first.at days.from.0) (condition_in file.now lists.conditions.count lists.conditions.first.at days.from.0) }
 {
     let mut own = first_owner(file, lists.transfers, days);
     let mut held = no_condition(file, lists.conditions, days);
-    let mut s: usize = 0;
+    spans.clear();
     let mut i: usize = 0;
     // A `while`: it steps from cut to cut.
     while (i as u64) < days.count.0 {
         own = record_at(file, own, days, i);
         held = record_at(file, held, days, i);
         let end = own.end.min(held.end);
-        set_span(spans, s, end, own.now.provider, held.now);
-        s += 1;
+        add_span(spans, end, own.now.provider, held.now);
         i = end;
     }
-    s
 }

@@ -14,7 +14,7 @@ mod advance;
 
 use advance::Advance;
 use bands::Bands;
-use bits::Cursor;
+use bits::{Cursor, Taken};
 use charged::Charged;
 use judges::Dial;
 use records::Records;
@@ -160,13 +160,6 @@ fn on_all_days(days: Charged, from: usize, to: usize) -> bool
     from == 0 && to as u64 == days.count.0 && 0 < to
 }
 
-// The cursor after some meters, and what every day has of them besides what stands in the spans' sums.
-#[derive(Clone, Copy)]
-pub struct MetersAdded {
-    pub next: Cursor,
-    pub every: Figures,
-}
-
 // The figures of a meter that is there on all days, as most are, are only added to `every`, what every day has besides what stands in the sums.
 fn add_during(
     spans: &mut [Span],
@@ -196,13 +189,13 @@ fn add_meter<'a>(
     spans: &mut [Span],
     days: Charged,
     every: Figures,
-) -> MetersAdded
+) -> Taken<Figures>
     requires at_bound { after_meter c.at (meter_at file.now c.at) < 2 ^ 32 }
     requires good_bands { GoodBands file.now bands.now }
     requires good_meter { GoodMeter (meter_at file.now c.at) × Cut spans.old days.count.0 (length spans.old) }
     requires room_with { RoomWith every spans.old (length spans.old) (λ q i. meter_figure (bands_in file.now bands.now) q (meter_at file.now c.at) (days.from.0 + i)) }
     ensures ends { result.next.at ≡ after_meter c.at (meter_at file.now c.at) }
-    ensures added { GrownWith every result.every spans.old spans.new (length spans.old) (λ q i. meter_figure (bands_in file.now bands.now) q (meter_at file.now c.at) (days.from.0 + i)) }
+    ensures added { GrownWith every result.value spans.old spans.new (length spans.old) (λ q i. meter_figure (bands_in file.now bands.now) q (meter_at file.now c.at) (days.from.0 + i)) }
 {
     let taken = records::meter(file, c);
     let head = taken.value;
@@ -210,7 +203,7 @@ fn add_meter<'a>(
     let each = figures_of(band, head.share);
     let next = add_reads(file, taken.next, head, spans, days);
     let more = add_during(spans, days, head, each, every);
-    MetersAdded { next, every: more }
+    Taken { value: more, next }
 }
 
 // What the days of each span have of the meters, where the sums were 0. What the meters that are there on all days have together is handed back, and is not added to the spans.
@@ -220,18 +213,18 @@ pub fn add_meters<'a>(
     bands: &'a Bands,
     spans: &mut [Span],
     days: Charged,
-) -> MetersAdded
+) -> Taken<Figures>
     requires good_meters { GoodMeters file.now list.count list.first.at × GoodBands file.now bands.now }
     requires cut { Cut spans.old days.count.0 (length spans.old) × SumsClear spans.old (length spans.old) × (days.count.0 ≤ 366) }
     ensures ends { result.next.at ≡ after_meters list.first.at (meters_from file.now list.count list.first.at) }
-    ensures sums { MetersIn result.every spans.old spans.new (length spans.old) days.from.0 (bands_in file.now bands.now) (meters_from file.now list.count list.first.at) }
+    ensures sums { MetersIn result.value spans.old spans.new (length spans.old) days.from.0 (bands_in file.now bands.now) (meters_from file.now list.count list.first.at) }
 {
     let mut every = Figures::default();
     let mut next = list.first;
     for _ in 0..list.count {
         let added = add_meter(file, next, bands, spans, days, every);
-        every = added.every;
+        every = added.value;
         next = added.next;
     }
-    MetersAdded { next, every }
+    Taken { value: every, next }
 }

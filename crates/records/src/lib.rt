@@ -6,7 +6,7 @@ ghost use Rattle.rules.specs.File.{service_of, header_at, band_at, point_head_at
 ghost use Rattle.rules.specs.File.{bands_at, bands, after_band, after_bands, transfers_from, after_transfer, after_condition, reads_from, after_read};
 ghost use Rattle.rules.specs.File.{meters, after_meters, point_at, after_point};
 ghost use Rattle.rules.specs.Refusal.{file_refusal};
-ghost use Rattle.records.specs.Lists.{after_lists};
+ghost use Rattle.records.specs.Lists.{ListsAt};
 ghost use Rattle.records.specs.Conditions.{condition_of};
 
 use bits::{Cursor, Taken, cut};
@@ -15,9 +15,9 @@ use rules::{Band, Condition, Header, MeterHead, PointHead, Read, Service, Transf
 // How many bits a record of each kind has.
 pub const BAND_BITS: usize = 90;
 
-pub const TRANSFER_BITS: usize = 32;
+const TRANSFER_BITS: usize = 32;
 
-pub const CONDITION_BITS: usize = 72;
+const CONDITION_BITS: usize = 72;
 
 const METER_BITS: usize = 72;
 
@@ -279,14 +279,50 @@ fn after_meters(file: &[u8], list: Records) -> Cursor
     next
 }
 
-// The cursor after a point's conditions and meters, of the cursor after its transfers. Records of one width are passed over by their count.
-pub fn after_lists(file: &[u8], c: Cursor, head: PointHead) -> Cursor
-    requires { after_lists file.now c.at head < 2 ^ 32 }
-    ensures { result.at ≡ after_lists file.now c.at head }
+// A point before its lists, and where each of them stands.
+#[derive(Clone, Copy)]
+pub struct PointLists {
+    pub head: PointHead,
+    pub transfers: Records,
+    pub conditions: Records,
+    pub meters: Records,
+}
+
+// Records of one width are passed over by their count.
+pub fn point_lists(file: &[u8], c: Cursor) -> PointLists
+    requires { c.at < 2 ^ 32 }
+    ensures { ListsAt file.now c.at result }
 {
-    let first = c.past(head.conditions, CONDITION_BITS);
-    let count = head.meters;
-    after_meters(file, Records { first, count })
+    let taken = point(file, c);
+    let head = taken.value;
+    let transfers = Records {
+        first: taken.next,
+        count: head.transfers,
+    };
+    let conditions = Records {
+        first: transfers.end(TRANSFER_BITS),
+        count: head.conditions,
+    };
+    let meters = Records {
+        first: conditions.end(CONDITION_BITS),
+        count: head.meters,
+    };
+    PointLists {
+        head,
+        transfers,
+        conditions,
+        meters,
+    }
+}
+
+impl PointLists {
+    // The cursor after the point, whose meters stand last.
+    pub fn end(self, file: &[u8]) -> Cursor
+        requires { after_meters self.meters.first.at (meters file.now self.meters.count self.meters.first.at) < 2 ^ 32 }
+        ensures { result.at ≡ after_meters self.meters.first.at (meters file.now self.meters.count self.meters.first.at) }
+    {
+        after_meters(file, self.meters)
+    }
 }
 
 // The cursor after a point.
@@ -294,8 +330,6 @@ pub fn after_point(file: &[u8], c: Cursor) -> Cursor
     requires { after_point c.at (point_at file.now c.at) < 2 ^ 32 }
     ensures { result.at ≡ after_point c.at (point_at file.now c.at) }
 {
-    let taken = point(file, c);
-    let head = taken.value;
-    let conditions = taken.next.past(head.transfers, TRANSFER_BITS);
-    after_lists(file, conditions, head)
+    let lists = point_lists(file, c);
+    lists.end(file)
 }

@@ -1,5 +1,5 @@
 -- The spans of a point's charged days, in a lent slice.
-use Rattle.std.specs.Prelude.{ℕ, zero, suc, ◌+◌, ◌-◌, ◌*◌, ◌^◌, ◌≤◌, ◌<◌, ◌≡◌, ◌&&◌, List, length, get_or, leb, ltb, eqb}
+use Rattle.std.specs.Prelude.{ℕ, zero, suc, ◌+◌, ◌-◌, ◌*◌, ◌^◌, ◌≤◌, ◌<◌, ◌≡◌, ◌&&◌, List, [], ◌∷◌, ◌++◌, length, get_or, leb, ltb, eqb}
 use Rattle.rules.specs.Sums.{only, over_days}
 use Rattle.records.specs.declared.Groups.{Groups}
 use Rattle.spans.specs.declared.Figures.{Figures}
@@ -73,11 +73,9 @@ sum_of span threshold_sum = span.figures.threshold
 abbrev pub sum_in : List Span → Sum → ℕ → ℕ
 sum_in spans q s = sum_of (span_in spans s) q
 
--- the span at a place becomes one without sums, and the others stay
-pub record SpanSet (before after : List Span) (s end provider : ℕ) (groups : Groups) : Type 0 where
-  pub long : length after ≡ length before
-  pub here : span_in after s ≡ clear_span end provider groups
-  pub others : (t : ℕ) → (t ≡ s → ⊥) → span_in after t ≡ span_in before t
+-- after the spans stands one more, without sums
+pub record SpanAdded (before after : List Span) (end provider : ℕ) (groups : Groups) : Type 0 where
+  pub is : after ≡ before ++ clear_span end provider groups ∷ []
 
 -- all that stands of the spans besides their sums is kept
 pub record Kept (before after : List Span) : Type 0 where

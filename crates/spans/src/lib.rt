@@ -3,8 +3,9 @@
 // slice, each with the entry before which it ends, its provider, its condition by groups, and four sums over its days. What some days have is added
 // to the spans that they meet, so that nothing is kept or done for each day.
 ghost use Rattle.std.specs.Prelude.{◌≡◌, ℕ, ◌+◌, ◌*◌, ◌<◌, ◌≤◌, ◌^◌, length};
-ghost use Rattle.spans.specs.Spans.{Sums, Times, begin_in, Cut, Reached, Holds, SpanSet, SumsAdded, figure_of, litres_of, RoomAt, during, Grown, Room};
+ghost use Rattle.spans.specs.Spans.{Sums, Times, begin_in, Cut, Reached, Holds, SpanAdded, SumsAdded, figure_of, litres_of, RoomAt, during, Grown, Room};
 
+use arrayvec::ArrayVec;
 use records::Groups;
 use std::ops::{Add, Mul};
 
@@ -63,17 +64,17 @@ pub struct Span {
     pub figures: Figures,
 }
 
-// The span at a place ends before an entry, and has a provider and a condition; its sums are 0.
-pub fn set_span(spans: &mut [Span], s: usize, end: usize, provider: u64, groups: Groups)
-    requires { s < length spans.old }
-    ensures { SpanSet spans.old spans.new s end provider groups }
+// One more span, which ends before an entry, and has a provider and a condition; its sums are 0.
+pub fn add_span(spans: &mut ArrayVec<Span, MOST_SPANS>, end: usize, provider: u64, groups: Groups)
+    requires { length spans.old.items < 72 }
+    ensures { SpanAdded spans.old.items spans.new.items end provider groups }
 {
-    spans[s] = Span {
+    spans.push(Span {
         end,
         provider,
         groups,
         ..Span::default()
-    };
+    });
 }
 
 // The span that holds the day of an entry, from one on that does not begin after it.
