@@ -1,7 +1,7 @@
 -- Days added to spans: what some days have is cut at the spans' ends, and each piece is added to the span that holds it. Every law is over any
 -- function of days. Assumes nothing.
 use Prim.Native.Nat.{ℕ, zero, suc, ◌+◌, ◌-◌, ◌≤◌, ◌<◌, min, max, zero-le}
-use mathlib.Core.Path.{◌≡◌, refl, sym, ap, ◌∙◌, subst}
+use mathlib.Core.Path.{◌≡◌, refl, ap, ◌∙◌, subst}
 use mathlib.Core.List.{List}
 use native.Mathlib.Nat.{le_refl}
 use native.Mathlib.Omega.{arith}
@@ -124,17 +124,14 @@ module _ {before after : List Span} (kept : Kept before after) where
   pub end_same : (s : ℕ) → end_in after s ≡ end_in before s
   end_same s = kept.ends s
 
-  pub cut_same : {n m : ℕ} → Cut before n m → Cut after n m
-  cut_same {m = m} c =
-      record {
-        room = omega (arith, c.room, kept.long);
-        some = λ s h. omega (arith, c.some s h, begin_same s, end_same s);
-        all = begin_same m ∙ c.all;
-      }
-
-  -- by the length of each
+  -- the cut, and a place that is reached, by the length of each
   pub cut_kept : {n : ℕ} → Cut before n (length before) → Cut after n (length after)
-  cut_kept {n} c = subst (Cut after n) (sym kept.long) (cut_same c)
+  cut_kept c =
+      record {
+        room = le_refl (length after);
+        some = λ s h. omega (arith, c.some s (omega (arith, kept.long)), begin_same s, end_same s);
+        all = begin_same (length after) ∙ ap (begin_in before) kept.long ∙ c.all;
+      }
 
   pub reached_kept : {s i j : ℕ} → Reached before (length before) s i → i ≤ j → Reached after (length after) s j
   reached_kept {s} r h = record { within = omega (arith, r.within, kept.long); begun = omega (arith, r.begun, begin_same s) }
