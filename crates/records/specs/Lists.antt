@@ -5,7 +5,7 @@ use Rattle.records.specs.declared.PointLists.{PointLists}
 
 -- a point at a position: its head, and each of its lists, which begins where the one before it ends
 pub record ListsAt (file : List ℕ) (at : ℕ) (r : PointLists) : Type 0 where
-  pub head : r.head ≡ point_head_at file at
-  pub transfers : (r.transfers.first.at ≡ transfers_from at) × (r.transfers.count ≡ r.head.transfers)
-  pub conditions : (r.conditions.first.at ≡ after_transfers r.transfers.first.at (transfers file r.transfers.count r.transfers.first.at)) × (r.conditions.count ≡ r.head.conditions)
-  pub meters : (r.meters.first.at ≡ after_conditions r.conditions.first.at (conditions file r.conditions.count r.conditions.first.at)) × (r.meters.count ≡ r.head.meters)
+  pub point : r.head ≡ point_head_at file at
+  pub transfer_list : (r.transfers.first.at ≡ transfers_from at) × (r.transfers.count ≡ r.head.transfers)
+  pub condition_list : (r.conditions.first.at ≡ after_transfers r.transfers.first.at (transfers file r.transfers.count r.transfers.first.at)) × (r.conditions.count ≡ r.head.conditions)
+  pub meter_list : (r.meters.first.at ≡ after_conditions r.conditions.first.at (conditions file r.conditions.count r.conditions.first.at)) × (r.meters.count ≡ r.head.meters)
