@@ -8,9 +8,10 @@ use Rattle.std.proofs.KnownBytes.{Consumes-trans}
 use Rattle.batch.specs.Batch.{number, Loses, EndsBefore, Reads, NoCase}
 use Rattle.batch.specs.declared.Case.{Case}
 
--- so many lost, and a part more
-pub loses_more : (o a b : Option (List ℕ)) (count left part : ℕ) (xs : List ℕ) → Loses o a (count - left) → Consumes a b xs → length xs ≡ part → left ≤ count → part ≤ left → Loses o b (count - (left - part))
-loses_more o a b count left part xs (bs, c, l) d e h k = (bs ++ xs, Consumes-trans o a b bs xs c d, omega (arith, l, e, length-append bs xs))
+-- so many lost, and then a part more, which was read into the front of a space
+pub loses_more : (o a b : Option (List ℕ)) (done part n all : ℕ) (waste space : List ℕ) → Loses o a done → Consumes a b (take n space) → n ≤ length space → length space ≡ length (take part waste) → part ≤ length waste → part ≤ n → all ≡ done + part → Loses o b all
+loses_more o a b done part n all waste space (bs, c, l) d within same fits full e =
+    (bs ++ take n space, Consumes-trans o a b bs (take n space) c d, omega (arith, l, e, within, same, full, length-take-le part waste fits, length-take-le n space within, length-append bs (take n space)))
 
 -- a number of the head is a number of the bytes that begin with it
 number_front : (head ys : List ℕ) (at : ℕ) → at + 4 ≤ length head → number (head ++ ys) at ≡ number head at

@@ -53,15 +53,12 @@ fn passed_over<R: Read>(input: &mut R, count: usize) -> io::Result<bool>
     ensures ended { IfOk result (λ all. all ≡ false → EndsBefore (R.remaining input.old) count) }
 {
     let mut waste = [0u8; 4096];
-    let mut left = count;
-    // A `while`: the last part is a shorter one, which `chunks` of nothing can't say.
-    while left > 0 {
-        let part = left.min(waste.len());
+    for done in (0..count).step_by(waste.len()) {
+        let part = (count - done).min(waste.len());
         let n = read_full(input, &mut waste[..part])?;
         if n < part {
             return Ok(false);
         }
-        left -= part;
     }
     Ok(true)
 }

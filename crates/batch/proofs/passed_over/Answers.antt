@@ -1,11 +1,9 @@
-use Rattle.std.proofs.Common.{◌≡◌, ◌∙◌, arith, length-take-le}
+use Rattle.std.proofs.Common.{arith}
 use Rattle.batch.proofs.Cases.{loses_more}
 use Rattle.batch.proofs.passed_over.Goals as goal
 
-pub loop-left-preserved : goal.loop-left-preserved
-loop-left-preserved g c =
-    let k = c.loop-left in
-    let n = c.in_ok-n in
-    let part = length-take-le c.min-part.result k.waste (omega (arith, c.min-part.ensures)) in
-    let all : n.n ≡ c.min-part.result = omega (arith, n.ensures.within, n.ensures.same_length, part) in
-    (omega arith, loses_more _ _ _ c.args.count k.left c.min-part.result _ k.invariant.1 n.ensures.bytes (length-take-le _ _ n.ensures.within ∙ all) k.invariant.0 (omega (arith, c.min-part.ensures)))
+pub loop-done-preserved : goal.loop-done-preserved
+loop-done-preserved g c = let n = c.in_ok-n in loses_more _ _ _ _ c.min-part.result _ _ _ _ c.loop-done.invariant n.ensures.bytes n.ensures.within n.ensures.same_length (omega arith) c.if-n-part.false (omega arith)
+
+pub returns-else-n-part-clause-passed : goal.returns-else-n-part-clause-passed
+returns-else-n-part-clause-passed g c h = let n = c.in_ok-n in loses_more _ _ _ _ c.min-part.result _ _ _ _ c.loop-done.invariant n.ensures.bytes n.ensures.within n.ensures.same_length (omega arith) c.if-n-part.false (omega arith)
