@@ -9,11 +9,13 @@ use Rattle.rules.specs.declared.Service.TheVariants.{Water}
 use Rattle.rules.specs.declared.Header.{Header}
 use Rattle.rules.specs.declared.PointHead.{PointHead}
 use Rattle.rules.specs.declared.Transfer.{Transfer}
-use Rattle.rules.specs.File.{Tariff, Supply, Point, records, header_at, bands_at, bands, after_bands, points as points_from, point_head_at, point_at, transfers, transfers_from, after_point, decode}
+use Rattle.rules.specs.File.{Tariff, Supply, Point, records, header_at, bands_at, bands, after_bands, points as points_from, point_at, transfers, after_point, decode}
 use Rattle.rules.specs.Charges.{charged_from, charged_count}
 use Rattle.rules.specs.Settlement.{insert_days, providers_and, providers_of}
 use Rattle.rules.specs.Good.{FirstBy, GoodPoint, Good}
-use Rattle.records.proofs.Skip.{transfers_small}
+use Rattle.records.specs.declared.PointLists.{PointLists}
+use Rattle.records.specs.Lists.{ListsAt}
+use Rattle.records.proofs.Skip.{transfers_are, transfers_small}
 use Rattle.records.proofs.Walk.{PointsLeft, points_one, points_next, first_left, first_points}
 use Rattle.charged.specs.declared.Charged.{Charged}
 use Rattle.charged.specs.Charged.{ChargedOf}
@@ -30,45 +32,40 @@ pub connected_first : (tariff : Tariff) (supply : Supply) → supply.connected �
 unfolding charged_from
 connected_first tariff supply = omega arith
 
--- A POINT of an accepted file, whose record before its lists was read
-module _ (b : List ℕ) (at : ℕ) {head : PointHead} {start : ℕ} (e : (head ≡ point_head_at b at) × (start ≡ transfers_from at)) where
-  pub point_transfers : (point_at b at).transfers ≡ transfers b head.transfers start
-  unfolding point_at
-  point_transfers = sym (ap₂ (λ (p : PointHead) s. transfers b p.transfers s) e.0 e.1)
-
+-- A POINT of an accepted file, by where its lists stand
+module _ {b : List ℕ} {at : ℕ} {r : PointLists} (l : ListsAt b at r) where
   -- its transfers give the provider of each day from a day on that is not before its connection
-  pub transfers_sound : {service : Service} {day : ℕ} → GoodPoint service (point_at b at) → after_point at (point_at b at) < 2 ^ 32 → (point_at b at).supply.connected ≤ day →
-      SoundTransfers b head.transfers start day
+  transfers_sound : {service : Service} {day : ℕ} → GoodPoint service (point_at b at) → after_point at (point_at b at) < 2 ^ 32 → (point_at b at).supply.connected ≤ day →
+      SoundTransfers b r.transfers.count r.transfers.first.at day
   transfers_sound g small h =
-      let same = point_transfers in
+      let same = sym (transfers_are l) in
       record {
         ascend = rw same at g.transfer_days;
-        first = first_by_later (transfers b head.transfers start) h (rw same at g.first_transfer);
-        ends = transfers_small b at e small;
+        first = first_by_later (transfers b r.transfers.count r.transfers.first.at) h (rw same at g.first_transfer);
+        ends = transfers_small l small;
       }
 
--- and its charged days
-module _ (b : List ℕ) (at year : ℕ) {head : PointHead} {start : ℕ} (e : (head ≡ point_head_at b at) × (start ≡ transfers_from at)) {days : Charged}
-    (charged : ChargedOf year head.connected head.disconnected days) where
-  abbrev point : Point
-  point = point_at b at
+  -- and its charged days
+  module _ {year : ℕ} {days : Charged} (charged : ChargedOf year r.head.connected r.head.disconnected days) where
+    abbrev point : Point
+    point = point_at b at
 
-  -- in a file of that year
-  charged_days : (tariff : Tariff) → tariff.year ≡ year → (days.from.0 ≡ charged_from tariff point.supply) × (days.count.0 ≡ charged_count tariff point.supply)
-  unfolding point_at
-  charged_days tariff y = charged.days tariff point.supply y (ap (λ (p : PointHead). p.connected) (sym e.0)) (ap (λ (p : PointHead). p.disconnected) (sym e.0))
+    -- in a file of that year
+    charged_days : (tariff : Tariff) → tariff.year ≡ year → (days.from.0 ≡ charged_from tariff point.supply) × (days.count.0 ≡ charged_count tariff point.supply)
+    unfolding point_at
+    charged_days tariff y = charged.days tariff point.supply y (ap (λ (h : PointHead). h.connected) (sym l.point)) (ap (λ (h : PointHead). h.disconnected) (sym l.point))
 
-  connected_by : point.supply.connected ≤ days.from.0
-  connected_by =
-      let tariff : Tariff = record { service = Water; year = year; property_price = 0; roads_price = 0; capacity_rate = 0; standard_rate = 0; bands = [] } in
-      omega (arith, (charged_days tariff refl).0, connected_first tariff point.supply)
+    connected_by : point.supply.connected ≤ days.from.0
+    connected_by =
+        let tariff : Tariff = record { service = Water; year = year; property_price = 0; roads_price = 0; capacity_rate = 0; standard_rate = 0; bands = [] } in
+        omega (arith, (charged_days tariff refl).0, connected_first tariff point.supply)
 
-  pub point_sound : {service : Service} → GoodPoint service point → after_point at point < 2 ^ 32 → SoundTransfers b head.transfers start days.from.0
-  point_sound g small = transfers_sound b at e g small connected_by
+    pub point_sound : {service : Service} → GoodPoint service point → after_point at point < 2 ^ 32 → SoundTransfers b r.transfers.count r.transfers.first.at days.from.0
+    point_sound g small = transfers_sound g small connected_by
 
-  -- the list with the providers of those days
-  pub point_put : (before : List ℕ) (tariff : Tariff) → tariff.year ≡ year → insert_days point days.from.0 days.count.0 before ≡ point_providers tariff point before
-  point_put before tariff y = let d = charged_days tariff y in ap₂ (λ from n. insert_days point from n before) d.0 d.1
+    -- the list with the providers of those days
+    pub point_put : (before : List ℕ) (tariff : Tariff) → tariff.year ≡ year → insert_days point days.from.0 days.count.0 before ≡ point_providers tariff point before
+    point_put before tariff y = let d = charged_days tariff y in ap₂ (λ from n. insert_days point from n before) d.0 d.1
 
 -- THE WHOLE FILE: the list so far, with the providers of the points that are left, has those of all
 pub points_longer : (tariff : Tariff) (ps : List ℕ) (points : List Point) → length ps ≤ length (providers_and tariff ps points)

@@ -1,19 +1,16 @@
--- `records::after_point` meets its contract. Assumes nothing.
+-- `records::after_point` meets its contract: a point ends where its meters do. Assumes nothing.
 use mathlib.Core.Path.{◌∙◌}
 use native.Mathlib.Omega.{arith}
 use Rattle.rules.specs.File.{point_at}
 use Rattle.records.proofs.Positions.{point_forward}
-use Rattle.records.proofs.Skip.{point_past, point_small}
+use Rattle.records.proofs.Skip.{meters_end, meters_small}
 use Rattle.records.proofs.after_point.Goals as goal
 
-pub point-taken-requires : goal.point-taken-requires
-point-taken-requires c = omega (arith, c.requires, point_forward c.args.c.at (point_at c.args.file.now c.args.c.at))
+pub point_lists-lists-requires : goal.point_lists-lists-requires
+point_lists-lists-requires c = omega (arith, c.requires, point_forward c.args.c.at (point_at c.args.file.now c.args.c.at))
 
-pub past-conditions-requires : goal.past-conditions-requires
-past-conditions-requires c = omega (arith, point_small c.args.file.now c.args.c.at c.point-taken.ensures c.requires)
-
-pub after_lists-requires : goal.after_lists-requires
-after_lists-requires c = rw c.past-conditions.ensures (omega (arith, c.requires, point_past c.args.file.now c.args.c.at c.point-taken.ensures))
+pub end-requires : goal.end-requires
+end-requires c = meters_small c.point_lists-lists.ensures c.requires
 
 pub returns : goal.returns
-returns c = rw c.past-conditions.ensures at c.after_lists.ensures ∙ point_past c.args.file.now c.args.c.at c.point-taken.ensures
+returns c = c.end.ensures ∙ meters_end c.point_lists-lists.ensures
