@@ -1,4 +1,4 @@
--- The spans of a point's charged days, in a lent slice.
+-- The spans of a point's charged days, in a lent vector.
 use Rattle.std.specs.Prelude.{ℕ, zero, suc, ◌+◌, ◌-◌, ◌*◌, ◌^◌, ◌≤◌, ◌<◌, ◌≡◌, ◌&&◌, List, [], ◌∷◌, ◌++◌, length, get_or, leb, ltb, eqb}
 use Rattle.rules.specs.Sums.{only, over_days}
 use Rattle.records.specs.declared.Groups.{Groups}

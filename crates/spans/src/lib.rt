@@ -1,6 +1,6 @@
 #![tactic(auto)]
-// The charged days of a supply point by spans: days that stand side by side and have one provider and one condition. A point's spans fill a lent
-// slice, each with the entry before which it ends, its provider, its condition by groups, and four sums over its days. What some days have is added
+// The charged days of a supply point by spans: days that stand side by side and have one provider and one condition. A point's spans stand in a lent
+// vector, each with the entry before which it ends, its provider, its condition by groups, and four sums over its days. What some days have is added
 // to the spans that they meet, so that nothing is kept or done for each day.
 ghost use Rattle.std.specs.Prelude.{◌≡◌, ℕ, ◌+◌, ◌*◌, ◌<◌, ◌≤◌, ◌^◌, length};
 ghost use Rattle.spans.specs.Spans.{Sums, Times, begin_in, Cut, Reached, Holds, SpanAdded, SumsAdded, figure_of, litres_of, RoomAt, during, Grown, Room};
