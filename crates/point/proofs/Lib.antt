@@ -1,4 +1,3 @@
 pub mod Asks
-pub mod First
 pub mod Made
 pub mod Taking
