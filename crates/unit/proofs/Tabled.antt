@@ -1,23 +1,19 @@
--- What the rows service hands back and leaves in the table, by the refusal of the file and the entries lent. Assumes nothing.
-use Prim.Native.Nat.{ℕ, zero, suc, ◌≤◌, ◌<◌}
-use mathlib.Core.Path.{◌≡◌, refl, ap, ap₂, sym, ◌∙◌}
+-- What the rows service answers and leaves in the table, by the refusal of the file and the entries lent. Assumes nothing.
+use Prim.Native.Nat.{ℕ, ◌≤◌, ◌<◌}
+use mathlib.Core.Path.{◌≡◌, refl, ap, sym, ◌∙◌}
 use mathlib.Core.List.{List}
-use Rattle.std.specs.Prelude.{Ok, Err}
 use native.Mathlib.Omega.{arith}
 use lib.ListN.{length, length-map}
 use lib.Dec.{eqb}
 use borrow.Author.Tests.{lt-ltb, le-ltb, ne_eqb}
 use Rattle.rules.specs.declared.Row.{Row}
-use Rattle.rules.specs.declared.Breach.{Breach}
-use Rattle.rules.specs.declared.Breach.TheVariants.{SpaceTooShort}
-use Rattle.rules.specs.Numbered.{number_of}
 use Rattle.rules.specs.Sums.{only}
 use Rattle.rules.specs.File.{decode}
 use Rattle.rules.specs.Refusal.{first_or, refusal}
 use Rattle.rules.specs.Settlement.{rows, row_and, clear_row, providers_of}
-use Rattle.rules.specs.Services.{written, room_number, rows_number, RowsAnswer, rows_told, rows_answer, rows_after}
+use Rattle.rules.specs.Services.{written, room_number, rows_number, RowsAnswer, rows_answer, rows_after}
 use Rattle.providers.specs.declared.Accepted.{Accepted}
-use Rattle.unit.proofs.Refused.{some_number, first_refused}
+use Rattle.unit.proofs.Refused.{first_some, unwritten}
 
 -- there is a row for each provider
 pub sized_rows : (accepted : Accepted) → length (rows (decode accepted.file.bytes.now)) ≡ length accepted.list.items
@@ -26,40 +22,54 @@ sized_rows accepted =
     let file = decode accepted.file.bytes.now in
     length-map (providers_of file.tariff file.points) (λ p. row_and file.tariff (clear_row p) file.points) ∙ sym (ap length accepted.providers.is)
 
-module _ (b : List ℕ) (table : List Row) where
+module _ (b : List ℕ) where
   abbrev answer : List Row
   answer = rows (decode b)
 
-  abbrev entries : ℕ
-  entries = length table
+  -- by the number
+  counted : (entries n : ℕ) → rows_number b entries ≡ n → 0 < n → ◌≡◌ {A = RowsAnswer} (rows_answer b entries) (record { number = n; count = 0 })
+  unfolding rows_answer only
+  counted entries n is some = ap (λ n. record { number = n; count = only (eqb n 0) (length answer) }) is ∙ simp (ne_eqb n 0 (λ z. absurd (omega arith)))
 
-  answered : (n count : ℕ) → rows_number b entries ≡ n → only (eqb n 0) (length answer) ≡ count → ◌≡◌ {A = RowsAnswer} (record { number = n; count = count }) (rows_answer b entries)
-  unfolding rows_answer
-  answered n count is k = sym (ap₂ (λ (n : ℕ) (count : ℕ). record { number = n; count = count }) is (ap (λ n. only (eqb n 0) (length answer)) is ∙ k))
+  kept : (table : List Row) (n : ℕ) → rows_number b (length table) ≡ n → 0 < n → rows_after b table ≡ table
+  unfolding rows_after
+  kept table n is some = ap (λ n. written n answer table) is ∙ unwritten n answer table some
 
-  -- A REFUSAL, whichever
-  none : (n : ℕ) → rows_number b entries ≡ n → (n ≡ 0 → ⊥) → (◌≡◌ {A = RowsAnswer} (record { number = n; count = 0 }) (rows_answer b entries)) × (table ≡ rows_after b table)
-  unfolding rows_after written only
-  none zero is some = absurd (some refl)
-  none (suc n) is some = (answered (suc n) 0 is (simp (ne_eqb (suc n) 0 some)), sym (rw (is, written)))
+  -- A REFUSED FILE
+  module _ (some : 0 < refusal b) where
+    number_refused : (entries : ℕ) → rows_number b entries ≡ refusal b
+    unfolding rows_number
+    number_refused entries = first_some (refusal b) _ some
 
-  -- of the file
-  pub refused : (breach : Breach) → number_of breach ≡ refusal b → (rows_told (Err breach) ≡ rows_answer b entries) × (table ≡ rows_after b table)
-  unfolding rows_number
-  refused breach e = none (number_of breach) (first_refused (refusal b) (number_of breach) _ e (some_number breach)) (some_number breach)
+    pub rows_refused : (entries : ℕ) → ◌≡◌ {A = RowsAnswer} (rows_answer b entries) (record { number = refusal b; count = 0 })
+    rows_refused entries = counted entries (refusal b) (number_refused entries) some
 
-  module _ {count : ℕ} (e : 0 ≡ refusal b) (sized : length answer ≡ count) where
+    pub kept_refused : (table : List Row) → rows_after b table ≡ table
+    kept_refused table = kept table (refusal b) (number_refused (length table)) some
+
+  module _ (e : refusal b ≡ 0) where
     -- TOO FEW ENTRIES
-    pub short : entries < count → (rows_told (Err SpaceTooShort) ≡ rows_answer b entries) × (table ≡ rows_after b table)
+    number_short : (entries : ℕ) → entries < length answer → rows_number b entries ≡ 14
     unfolding rows_number first_or room_number
-    short h =
-        let few : entries < length answer = omega arith in
-        none 14 (rw (sym e, first_or, lt-ltb entries (length answer) few)) (λ z. absurd (omega (arith, z)))
+    number_short entries h = rw (e, first_or, lt-ltb entries (length answer) h) refl
+
+    pub rows_short : (entries : ℕ) → entries < length answer → ◌≡◌ {A = RowsAnswer} (rows_answer b entries) (record { number = 14; count = 0 })
+    rows_short entries h = counted entries 14 (number_short entries h) (omega arith)
+
+    pub kept_short : (table : List Row) → length table < length answer → rows_after b table ≡ table
+    kept_short table h = kept table 14 (number_short (length table) h) (omega arith)
 
     -- THE ROWS
-    pub enough : count ≤ entries → {exit : List Row} → exit ≡ written 0 answer table → (rows_told (Ok count) ≡ rows_answer b entries) × (exit ≡ rows_after b table)
-    unfolding rows_number first_or room_number rows_after only
-    enough h x =
-        let all : length answer ≤ entries = omega arith in
-        let is : rows_number b entries ≡ 0 = rw (sym e, first_or, le-ltb entries (length answer) all) in
-        (answered 0 count is sized, x ∙ ap (λ n. written n answer table) (sym is))
+    number_enough : (entries : ℕ) → length answer ≤ entries → rows_number b entries ≡ 0
+    unfolding rows_number first_or room_number
+    number_enough entries h = rw (e, first_or, le-ltb entries (length answer) h) refl
+
+    pub rows_enough : (entries : ℕ) → length answer ≤ entries → ◌≡◌ {A = RowsAnswer} (rows_answer b entries) (record { number = 0; count = length answer })
+    unfolding rows_answer only
+    rows_enough entries h = ap (λ n. record { number = n; count = only (eqb n 0) (length answer) }) (number_enough entries h)
+
+    pub after_enough : (table : List Row) → length answer ≤ length table → rows_after b table ≡ written 0 answer table
+    unfolding rows_after
+    after_enough table h = ap (λ n. written n answer table) (number_enough (length table) h)
+
+pub ruleset tabled = (sized_rows, rows_refused, kept_refused, rows_short, kept_short, rows_enough, after_enough)
