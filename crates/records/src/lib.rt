@@ -5,7 +5,8 @@ ghost use Rattle.std.specs.Prelude.{◌≡◌, ◌+◌, ◌*◌, ◌<◌, ◌^�
 ghost use Rattle.rules.specs.File.{service_of, header_at, band_at, point_head_at, transfer_at, condition_at, meter_head_at, read_at};
 ghost use Rattle.rules.specs.File.{bands_at, bands, after_band, after_bands, transfers_from, after_transfer, after_condition, reads_from, after_read};
 ghost use Rattle.rules.specs.File.{meters, after_meters, point_at, after_point};
-ghost use Rattle.rules.specs.Refusal.{file_refusal};
+ghost use Rattle.rules.specs.Good.{Good};
+ghost use Rattle.rules.specs.Once.{good_once};
 ghost use Rattle.records.specs.Lists.{ListsAt};
 ghost use Rattle.records.specs.Conditions.{condition_of};
 
@@ -40,13 +41,14 @@ impl Records {
     }
 }
 
-// A file that breaks none of 1 to 12, with its header, and where its bands stand: all of a call that comes after the check goes on from here.
+// A file that was checked: it holds what one that breaks none of 1 to 12 holds. With its header, and where its bands stand; all of a call that
+// comes after the check goes on from here.
 #[derive(Clone, Copy)]
 pub struct Checked<'a> {
     pub bytes: &'a [u8],
     pub head: Header,
     pub bands: Records,
-    ghost sound: { file_refusal bytes.now ≡ 0 },
+    ghost good: { Good bytes.now } by { good_once bytes.now },
     ghost header: { head ≡ header_at bytes.now },
     ghost listed: { (bands.first.at ≡ bands_at) × (bands.count ≡ head.bands) },
 }

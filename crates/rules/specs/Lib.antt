@@ -16,3 +16,4 @@ pub mod Promises
 pub mod Good
 pub mod Fits
 pub mod Examples
+pub mod Once

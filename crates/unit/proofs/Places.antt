@@ -11,7 +11,6 @@ use Rattle.rules.specs.File.{Point, bands_at, bands, after_bands, point_at, poin
 use Rattle.rules.specs.Settlement.{statement}
 use Rattle.rules.specs.Services.{zero_statement, StatementAnswer, statement_told, statement_at}
 use Rattle.rules.specs.Good.{Good}
-use Rattle.rules.proofs.Accepted.{accepted}
 use Rattle.records.specs.declared.Checked.{Checked}
 use Rattle.records.proofs.Positions.{length_records}
 use Rattle.records.proofs.Walk.{PointsLeft, points_one, points_next, first_left, first_points, point_here, point_ends}
@@ -25,7 +24,7 @@ module _ (file : Checked) where
   many = file.head.points
 
   good : Good b
-  good = accepted b file.sound
+  good = file.good
 
   -- the answer at a place among some points
   abbrev among : List Point → ℕ → StatementAnswer

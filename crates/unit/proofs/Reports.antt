@@ -21,7 +21,6 @@ use Rattle.rules.specs.Good.{Good}
 use Rattle.report.specs.Once.{Numbers}
 use Rattle.rules.specs.Fits.{Fits, AllFit}
 use Rattle.rules.proofs.Lists.{all_map}
-use Rattle.rules.proofs.Accepted.{accepted as accepted_good}
 use Rattle.rules.proofs.Kept.{row_provider}
 use Rattle.rules.proofs.Services.{accepted_number, accepted_answer, accepted_after}
 use Rattle.providers.specs.declared.Accepted.{Accepted}
@@ -69,7 +68,7 @@ module _ (accepted : Accepted) where
   file = decode b
 
   good : Good b
-  good = accepted_good b accepted.file.sound
+  good = accepted.file.good
 
   pub few_rows : length (rows file) ≤ 64
   few_rows = omega (arith, sized_rows accepted, accepted.providers.few)

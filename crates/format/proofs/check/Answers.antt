@@ -1,6 +1,7 @@
 -- `check` meets its contract. Each loop's invariant says that the refusal of the whole file is that of what is still to come. Assumes nothing.
 use mathlib.Core.Path.{refl, sym}
 use native.Mathlib.Omega.{arith}
+use Rattle.rules.proofs.Accepted.{accepted}
 use Rattle.rules.proofs.Exits.{handed_on}
 use Rattle.rules.proofs.Judged.{meter_digits}
 use Rattle.format.proofs.Walk.{has_room, stops, goes_on, ends, too_long, header_stops, opens, file_ends}
@@ -94,7 +95,10 @@ returns-in_err-padding-clause-number c = rw (handed_on c.from_residual-in_err-pa
 pub invariant_of-result : goal.invariant_of-result
 invariant_of-result c =
     record {
-      sound = sym (file_ends (ends c.points.invariant c.points-test.false) c.in_ok-padding.ensures);
+      good = accepted _ (sym (file_ends (ends c.points.invariant c.points-test.false) c.in_ok-padding.ensures));
       header = c.header-header.ensures.0;
       listed = (c.header-header.ensures.1, refl);
     }
+
+pub returns-in_ok-padding-clause-number : goal.returns-in_ok-padding-clause-number
+returns-in_ok-padding-clause-number c = file_ends (ends c.points.invariant c.points-test.false) c.in_ok-padding.ensures

@@ -6,13 +6,12 @@ use Rattle.rules.specs.Numbered.{number_of}
 use native.Mathlib.Omega.{arith}
 use borrow.Author.Tests.{lt-ltb}
 use Rattle.rules.proofs.Exits.{handed_on}
-use Rattle.rules.proofs.Accepted.{accepted}
 use Rattle.records.proofs.Walk.{point_here, point_within}
 use Rattle.providers.proofs.Points.{listing_start, listing_next, listing_over, listing_done}
 use Rattle.providers.proofs.provider_list.Goals as goal
 
 pub loop-init : goal.loop-init
-loop-init c = rw (c.none-providers.ensures, sub-zero) (listing_start _ (accepted _ c.args.file.sound) c.args.file.header c.first_point-next.ensures)
+loop-init c = rw (c.none-providers.ensures, sub-zero) (listing_start _ c.args.file.good c.args.file.header c.first_point-next.ensures)
 
 pub put_point-requires : goal.put_point-requires
 put_point-requires c = let points = c.loop.invariant.points in (point_here _ points (omega arith), point_within _ points (omega arith))

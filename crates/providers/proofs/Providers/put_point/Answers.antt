@@ -2,7 +2,6 @@
 use mathlib.Core.Path.{refl, sym, ◌∙◌}
 use native.Mathlib.Omega.{arith}
 use Rattle.rules.specs.File.{bands_at, point_at}
-use Rattle.rules.proofs.Accepted.{accepted}
 use Rattle.rules.proofs.Exits.{handed_on}
 use Rattle.records.proofs.Positions.{point_forward}
 use Rattle.records.proofs.Skip.{transfers_are, meters_end, meters_small}
@@ -16,7 +15,7 @@ point_lists-lists-requires c = omega (arith, c.requires.1, point_forward c.args.
 pub charged_days-days-requires : goal.charged_days-days-requires
 charged_days-days-requires c =
     let file = c.args.file.now in
-    let good = accepted _ file.sound in
+    let good = file.good in
     (year_from_lem _ good {start = bands_at} (file.header, refl), year_to_lem _ good {start = bands_at} (file.header, refl))
 
 pub put_transfers-requires : goal.put_transfers-requires

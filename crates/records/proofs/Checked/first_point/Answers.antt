@@ -2,14 +2,13 @@
 -- nothing.
 use mathlib.Core.Path.{◌∙◌}
 use native.Mathlib.Omega.{arith}
-use Rattle.rules.proofs.Accepted.{accepted}
 use Rattle.records.proofs.Walk.{past_bands, first_left, left_within}
 use Rattle.records.proofs.Checked.first_point.Goals as goal
 
 pub end-requires : goal.end-requires
 end-requires c =
     let file = c.args.self.now in
-    let good = accepted _ file.sound in
+    let good = file.good in
     omega (arith, left_within _ (first_left _ good file.header (past_bands _ file.head file.listed)))
 
 pub returns : goal.returns
