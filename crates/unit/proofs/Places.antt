@@ -1,6 +1,6 @@
 -- From place to place of an accepted file. Assumes nothing.
 use Prim.Native.Nat.{ℕ, zero, suc, ◌+◌, ◌-◌, ◌≤◌, ◌<◌}
-use mathlib.Core.Path.{◌≡◌, refl, sym, ap, ap₂, ◌∙◌, subst}
+use mathlib.Core.Path.{◌≡◌, refl, sym, ap, ◌∙◌}
 use mathlib.Core.List.{List, [], ◌∷◌, map}
 use native.Mathlib.Omega.{arith}
 use lib.ListN.{length}
@@ -54,9 +54,9 @@ module _ (file : Checked) where
         let all : many - 0 ≡ many = omega arith in
         let here : place - 0 ≡ place = omega arith in
         record {
-          left = subst (λ n. PointsLeft b n at) (sym all) (first_left b good file.header first);
+          left = rw all (first_left b good file.header first);
           to = omega arith;
-          is = ap₂ (λ n k. among (points b n at) k) all here ∙ ap (λ ps. among ps place) (first_points b good file.header first);
+          is = rw (all, here) (ap (λ ps. among ps place) (first_points b good file.header first));
         }
 
     module _ {i at : ℕ} (p : AtPlace place i at) (h : place < many) where
@@ -76,13 +76,13 @@ module _ (file : Checked) where
           let fewer : many - (i + 1) ≡ many - i - 1 = omega arith in
           let one : place - i ≡ suc (place - (i + 1)) = omega arith in
           record {
-            left = subst (λ k. PointsLeft b k next) (sym fewer) (subst (PointsLeft b (many - i - 1)) (sym n) (points_next b p.left some));
+            left = rw (n, fewer) (points_next b p.left some);
             to = omega arith;
-            is = ap₂ (λ k a. among (points b k a) (place - (i + 1))) fewer n ∙ (sym (split (suc (place - (i + 1)))) ∙ (ap (among (points b (many - i) at)) (sym one) ∙ p.is));
+            is = rw (n, fewer) (sym (split (suc (place - (i + 1)))) ∙ (rw one at p.is));
           }
 
       pub place_found : {s : Statement} → place ≤ i → s ≡ statement (decode b).tariff (point_at b at).supply → statement_told (Ok s) ≡ among (decode b).points place
       unfolding statement_at
       place_found l z =
-          let none : 0 ≡ place - i = omega arith in
-          ap (λ (s : Statement). record { number = 0; statement = s }) z ∙ (sym (split 0) ∙ (ap (among (points b (many - i) at)) none ∙ p.is))
+          let none : place - i ≡ 0 = omega arith in
+          ap (λ (s : Statement). record { number = 0; statement = s }) z ∙ (sym (split 0) ∙ (rw none at p.is))

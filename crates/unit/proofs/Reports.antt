@@ -1,5 +1,5 @@
 -- The report service's answer by the refusal of the file, and the report of an accepted file by its rows. Assumes nothing.
-use Prim.Native.Nat.{ℕ, zero, suc, ◌^◌, ◌≤◌, ◌<◌}
+use Prim.Native.Nat.{ℕ, suc, ◌^◌, ◌≤◌, ◌<◌}
 use native.Mathlib.Omega.{arith}
 use mathlib.Core.Path.{◌≡◌, sym, ap, ◌∙◌}
 use mathlib.Core.List.{List, [], ◌∷◌, ◌++◌, append-nil}
@@ -42,21 +42,19 @@ module _ (b : List ℕ) (some : 0 < refusal b) where
 
   pub answer_refused : (room : ℕ) → report_answer b room ≡ refusal b
   unfolding report_answer
-  answer_refused room = ap (λ n. first_or (n ∷ []) (length (report (decode b)))) (number_refused room) ∙ first_some (refusal b) _ some
+  answer_refused room = simp (number_refused room, first_some (refusal b) (length (report (decode b))) some)
 
   pub after_refused : (space : List ℕ) → report_after b space ≡ space
   unfolding report_after
-  after_refused space = ap (λ n. written n (report (decode b)) space) (number_refused (length space)) ∙ unwritten (refusal b) (report (decode b)) space some
+  after_refused space = simp (number_refused (length space), unwritten (refusal b) (report (decode b)) space some)
 
 -- a text's length is within the space that it was written into
 pub within : (text : List ℕ) (r : Result ℕ Breach) (space exit : List ℕ) → one_number r ≡ length_or (length space) text → refusal_of r ≡ room_number (length space) (length text) → exit ≡ space_after text space →
     IfOk r (λ n. n ≤ length exit)
 unfolding length_or space_after first_or written
-within text (Ok n) space exit a r x = go (room_number (length space) (length text)) r a x
-  where
-    go : (m : ℕ) → 0 ≡ m → n ≡ first_or (m ∷ []) (length text) → exit ≡ written m text space → n ≤ length exit
-    go zero z a x = omega (arith, a, ap length x, length-append text (drop (length text) space))
-    go (suc m) z a x = absurd (omega arith)
+within text (Ok n) space exit a r x =
+    let all = sym r in
+    omega (arith, rw all at a, ap length (rw all at x), length-append text (drop (length text) space))
 within text (Err breach) space exit a r x = tt
 
 -- an accepted file's rows
