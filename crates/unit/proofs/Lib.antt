@@ -1,4 +1,2 @@
-pub mod Refused
 pub mod Places
-pub mod Tabled
 pub mod Reports

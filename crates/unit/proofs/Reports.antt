@@ -1,11 +1,11 @@
--- The report service's answer by the refusal of the file, and the report of an accepted file by its rows. Assumes nothing.
+-- What was written is within the space; and an accepted file's rows, what a report asks of them, and its report. Assumes nothing.
 use Prim.Native.Nat.{ℕ, suc, ◌^◌, ◌≤◌, ◌<◌}
 use native.Mathlib.Omega.{arith}
 use mathlib.Core.Path.{◌≡◌, sym, ap, ◌∙◌}
 use mathlib.Core.List.{List, [], ◌∷◌, ◌++◌, append-nil}
 use Prim.{tt}
 use Rattle.std.specs.Prelude.{Result, Ok, Err, IfOk, map}
-use lib.ListN.{length, length-append, get_or, take, drop}
+use lib.ListN.{length, length-map, length-append, get_or, take, drop}
 use Rattle.std.proofs.lemmas.List.{drop_all, length-take}
 use Rattle.rules.specs.declared.Header.{Header}
 use Rattle.rules.specs.declared.Breach.{Breach}
@@ -13,40 +13,23 @@ use Rattle.rules.specs.Numbered.{refusal_of, one_number}
 use Rattle.rules.specs.declared.Row.{Row}
 use Rattle.rules.specs.File.{Tariff, Point, File, decode}
 use Rattle.rules.specs.Lists.{All}
-use Rattle.rules.specs.Refusal.{first_or, refusal}
+use Rattle.rules.specs.Refusal.{first_or}
 use Rattle.rules.specs.Settlement.{rows, row_and, clear_row, providers_of}
 use Rattle.rules.specs.Report.{report_of, report}
-use Rattle.rules.specs.Services.{written, room_number, length_or, space_after, report_number, report_answer, report_after}
+use Rattle.rules.specs.Services.{written, room_number, length_or, space_after}
 use Rattle.rules.specs.Good.{Good}
 use Rattle.report.specs.Once.{Numbers}
 use Rattle.rules.specs.Fits.{Fits, AllFit}
 use Rattle.rules.proofs.Lists.{all_map}
 use Rattle.rules.proofs.Kept.{row_provider}
-use Rattle.rules.proofs.Services.{accepted_number, accepted_answer, accepted_after}
 use Rattle.providers.specs.declared.Accepted.{Accepted}
 use Rattle.records.proofs.Walk.{year_to_lem}
 use Rattle.settle.proofs.Rows.{rows_fit}
-use Rattle.unit.proofs.Tabled.{sized_rows}
-use Rattle.unit.proofs.Refused.{first_some, unwritten}
 
 numbered : (tariff : Tariff) (points : List Point) (list : List ℕ) → ((i : ℕ) → get_or list i 0 < 2 ^ 64) → All (λ row. row.provider < 2 ^ 64) (map (λ p. row_and tariff (clear_row p) points) list)
 unfolding clear_row
 numbered tariff points [] fits = tt
 numbered tariff points (p ∷ ps) fits = (rw (row_provider tariff points (clear_row p)) (fits 0), numbered tariff points ps (λ i. fits (suc i)))
-
--- a refused file's number is the answer, and nothing is written
-module _ (b : List ℕ) (some : 0 < refusal b) where
-  pub number_refused : (room : ℕ) → report_number b room ≡ refusal b
-  unfolding report_number
-  number_refused room = first_some (refusal b) _ some
-
-  pub answer_refused : (room : ℕ) → report_answer b room ≡ refusal b
-  unfolding report_answer
-  answer_refused room = simp (number_refused room, first_some (refusal b) (length (report (decode b))) some)
-
-  pub after_refused : (space : List ℕ) → report_after b space ≡ space
-  unfolding report_after
-  after_refused space = simp (number_refused (length space), unwritten (refusal b) (report (decode b)) space some)
 
 -- a text's length is within the space that it was written into
 pub within : (text : List ℕ) (r : Result ℕ Breach) (space exit : List ℕ) → one_number r ≡ length_or (length space) text → refusal_of r ≡ room_number (length space) (length text) → exit ≡ space_after text space →
@@ -68,8 +51,13 @@ module _ (accepted : Accepted) where
   good : Good b
   good = accepted.file.good
 
+  -- there is a row for each provider
+  pub sized_rows : length (rows file) ≡ length accepted.list.items
+  unfolding rows
+  sized_rows = length-map (providers_of file.tariff file.points) (λ p. row_and file.tariff (clear_row p) file.points) ∙ sym (ap length accepted.providers.is)
+
   pub few_rows : length (rows file) ≤ 64
-  few_rows = omega (arith, sized_rows accepted, accepted.providers.few)
+  few_rows = omega (arith, sized_rows, accepted.providers.few)
 
   pub rows_all_fit : AllFit (rows file)
   unfolding rows
@@ -89,5 +77,3 @@ module _ (accepted : Accepted) where
 pub only_rows : (n : ℕ) (xs table : List Row) → n ≤ length xs → written 0 xs (take n table) ≡ xs
 unfolding written
 only_rows n xs table h = ap (λ rest. xs ++ rest) (drop_all (length xs) (take n table) (omega (arith, length-take n table))) ∙ append-nil xs
-
-pub ruleset reported = (only_rows, report_is, number_refused, answer_refused, after_refused, accepted_number, accepted_answer, accepted_after)
