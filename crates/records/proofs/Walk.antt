@@ -81,9 +81,6 @@ module _ (b : List ℕ) where
 
   -- all points again, by that cursor
   module _ (g : Good b) {head : Header} {start : ℕ} (e : (head ≡ header_at b) × (start ≡ bands_at)) where
-    pub file_points : points b head.points (start + head.bands * 90) ≡ (decode b).points
-    file_points = first_points g e.0 (past_bands head (e.1, refl))
-
     pub points_start : PointsLeft head.points (start + head.bands * 90)
     points_start = first_left g e.0 (past_bands head (e.1, refl))
 

@@ -14,5 +14,4 @@ pub mod Kept
 pub mod Examples
 pub mod Sentences
 pub mod Numbers
-pub mod Services
 pub mod Refused
