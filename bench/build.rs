@@ -1,4 +1,4 @@
-//! Links the unit's static library, which `rt staticlib unit` writes.
+//! Links the unit's static library, which `tools/staticlib` writes.
 
 use std::env;
 

@@ -1,101 +1,94 @@
--- The bands of a tariff, one at a time: their sizes, and which of them serves. Assumes nothing.
-use Prim.Native.Nat.{ℕ, suc, ◌+◌, ◌-◌, ◌*◌, ◌≤◌, ◌<◌, zero-le}
-use mathlib.Core.Path.{◌≡◌, refl, sym, ap, ◌∙◌, subst}
-use mathlib.Core.Bool.{Bool, true, false, cond}
-use mathlib.Core.List.{List, [], ◌∷◌, map}
-use native.Mathlib.Decide.{dec_lt}
+-- The bands of a tariff: which of them serves, by their sizes. Assumes nothing.
+use Prim.Native.Nat.{ℕ, zero, suc, ◌+◌, ◌-◌, ◌*◌, ◌^◌, ◌≤◌, ◌<◌, zero-le}
+use mathlib.Core.Path.{◌≡◌, refl, sym, ap, ◌∙◌}
+use mathlib.Core.Bool.{true, false}
+use mathlib.Core.List.{List, map}
+use native.Mathlib.Nat.{le_refl}
 use native.Mathlib.Omega.{arith}
-use borrow.Author.Tests.{eq-eqb, ne_eqb}
+use borrow.Author.Tests.{leb-true, leb-false}
 use lib.Dec.{leb}
-use lib.ListN.{length, get_or, set, length-set}
-use lib.Seq.{get_or-set_same, get_or-set_other}
+use lib.ListN.{length, get_or}
+use Rattle.std.specs.List.{between}
+use Rattle.std.specs.List.Sorted.{IsPartitionedBy, IsPartitionPoint}
+use Rattle.std.proofs.lemmas.Bool.Decides.{nat_tests}
+use Rattle.std.proofs.lemmas.List.Edits.{length-between, get_or-between}
+use Rattle.std.proofs.lemmas.List.Sorted.{IsPartitionedBy-leb}
 use Rattle.rules.specs.declared.Band.{Band}
 use Rattle.rules.specs.Lists.{Ascending, latest}
-use Rattle.rules.specs.File.{band_at, bands, after_band, after_bands}
-use Rattle.rules.specs.Charges.{no_band, first_band, band_for}
-use Rattle.rules.proofs.Lists.{latest_ahead, latest_here}
-use Rattle.records.proofs.Ahead.{read_one, read_past}
+use Rattle.rules.specs.File.{records, band_at, bands, after_band, after_bands}
+use Rattle.rules.specs.Charges.{first_band, band_for}
+use Rattle.rules.proofs.Lists.{there}
+use Rattle.records.proofs.Positions.{records_wide}
+use Rattle.records.proofs.Ahead.{read_one}
 use Rattle.bands.specs.Bands.{SizesOf}
 
--- THE SIZES OF THE BANDS, written one after the other
-module _ {file : List ℕ} {at : ℕ} where
-  pub sizes_none : (sizes : List ℕ) → SizesOf file 0 at sizes
-  sizes_none sizes = record { long = zero-le; each = λ i h. absurd (omega arith) }
-
-  pub sizes_more : {k : ℕ} {sizes : List ℕ} (size : ℕ) → SizesOf file k at sizes → k < length sizes → size ≡ (band_at file (at + k * 90)).size → SizesOf file (k + 1) at (set sizes k size)
-  sizes_more {k} {sizes} size u h e =
-      record {
-        long = omega (arith, length-set sizes k size);
-        each = λ i q. elim (dec_lt i k) [
-          | yes lt ↦ get_or-set_other sizes k i size 0 (omega arith) ∙ u.each i lt
-          | no ge ↦
-              let same : i ≡ k = omega arith in
-              rw same (get_or-set_same sizes k size 0 h ∙ e)
-        ];
-      }
-
-  -- the loop is past the last band
-  pub sizes_to : {k : ℕ} {sizes : List ℕ} (count : ℕ) → SizesOf file k at sizes → count ≤ k → SizesOf file count at sizes
-  sizes_to count u h = record { long = omega (arith, u.long); each = λ i q. u.each i (omega arith) }
-
-  -- the size of the first band that is left
-  pub size_next : {count left next : ℕ} {sizes : List ℕ} (k : ℕ) → SizesOf file count at sizes → k + left ≡ count → next ≡ at + k * 90 → 0 < left → get_or sizes k 0 ≡ (band_at file next).size
-  size_next k u n e h = u.each k (omega arith) ∙ ap (λ p. (band_at file p).size) (sym e)
-
--- BANDS: `served` is what serves a size, of the band that stands at `best` and then the bands that are left, whose sizes ascend
-pub record Serving (file : List ℕ) (size : ℕ) (served : Band) (best : ℕ) (left : List Band) : Type 0 where
-  pub low : ℕ
-  pub rising : Ascending low (map (λ b. b.size) left)
-  pub is : latest (λ b. b.size) (λ b. b) (band_at file best) left size ≡ served
-
-module _ (file : List ℕ) (size : ℕ) {served : Band} {best : ℕ} (next : Band) (left : List Band) (u : Serving file size served best (next ∷ left)) where
-  -- a band that is not above the size, and one that is
-  pub serves_next : {at : ℕ} → next ≡ band_at file at → next.size ≤ size → Serving file size served at left
-  serves_next e h =
-      record {
-        low = suc next.size;
-        rising = u.rising.1;
-        is = ap (λ b. latest (λ b. b.size) (λ b. b) b left size) (sym e) ∙ (sym (latest_here (λ b. b.size) size (λ b. b) (band_at file best) next left h) ∙ u.is);
-      }
-
-  pub serves_best : size < next.size → band_at file best ≡ served
-  serves_best h = sym (latest_ahead (λ b. b.size) size (λ b. b) (band_at file best) u.low next left u.rising h) ∙ u.is
+-- BANDS, each of which has 90 bits
+pub band_within : (file : List ℕ) (at : ℕ) {n k : ℕ} → after_bands at (bands file n at) < 2 ^ 32 → k < n → at + k * 90 < 2 ^ 32
+band_within file at {n} h l = omega (arith, records_wide 90 (band_at file) n at)
 
 module _ (file : List ℕ) (size : ℕ) where
-  cond_same : {A : Type 0} (t : Bool) (x : A) → cond t x x ≡ x
-  cond_same true x = refl
-  cond_same false x = refl
+  abbrev key : ℕ → ℕ
+  key at = (band_at file at).size
 
-  module _ (n at : ℕ) where
-    pub no_size : {b : Band} → b ≡ no_band → size ≡ 0 → b ≡ band_for (bands file n at) size
-    unfolding band_for
-    no_size e z = e ∙ simp (eq-eqb size 0 z)
+  -- what serves, of a band and of those behind it
+  abbrev served : Band → List Band → Band
+  served first bs = latest (λ b. b.size) (λ b. b) first bs size
 
-    -- the bands behind the first
-    abbrev bands_behind : List Band
-    bands_behind = bands file (n - 1) (after_band at)
+  -- none of those behind it, where all are above the size
+  served_none : (first : Band) (n at : ℕ) → ((j : ℕ) → j < n → size < key (at + j * 90)) → served first (bands file n at) ≡ first
+  unfolding latest records
+  served_none first zero at h = refl
+  served_none first (suc n) at h = grind (arith, nat_tests, h 0, served_none first n (at + 90) (λ j l. grind (arith, h (suc j))))
 
-    -- what serves, of the first and of them
-    abbrev pub served_by : Band
-    served_by = latest (λ b. b.size) (λ b. b) (band_at file at) bands_behind size
+  -- the last one that is not above the size
+  served_at : (n at k : ℕ) → k ≤ n → ((j : ℕ) → j < k → key (at + suc j * 90) ≤ size) → ((j : ℕ) → k ≤ j → j < n → size < key (at + suc j * 90)) → served (band_at file at) (bands file n (at + 90)) ≡ band_at file (at + k * 90)
+  unfolding latest records
+  served_at n at zero h below above = grind (arith, served_none (band_at file at) n (at + 90) (λ j l. grind (arith, above j zero-le l)))
+  served_at zero at (suc k) h below above = absurd (omega arith)
+  served_at (suc n) at (suc k) h below above =
+      grind (arith, nat_tests, below 0, served_at n (at + 90) k (omega arith) (λ j l. grind (arith, below (suc j))) (λ j l r. grind (arith, above (suc j))))
 
-    module _ (h : 0 < n) where
-      pub bands_end : after_bands (after_band at) bands_behind ≡ after_bands at (bands file n at)
-      bands_end = sym (read_past (band_at file) (λ at b. after_band at) n at h (refl, refl))
+  -- their sizes ascend
+  rising_from : (low n at : ℕ) → Ascending low (map (λ b. b.size) (bands file n at)) → (j : ℕ) → j < n → low ≤ key (at + j * 90)
+  unfolding records
+  rising_from low zero at up j h = absurd (omega arith)
+  rising_from low (suc n) at up zero h = grind (arith, up.0)
+  rising_from low (suc n) at up (suc j) h = grind (arith, up.0, rising_from (suc (key at)) n (at + 90) up.1 j (omega arith))
 
-      first_band_lem : bands file n at ≡ band_at file at ∷ bands_behind
-      first_band_lem = read_one (band_at file) (λ at b. after_band at) n at h (refl, refl)
+  rising_at : (low n at : ℕ) → Ascending low (map (λ b. b.size) (bands file n at)) → (i j : ℕ) → i ≤ j → j < n → key (at + i * 90) ≤ key (at + j * 90)
+  unfolding records
+  rising_at low zero at up i j h l = absurd (omega arith)
+  rising_at low (suc n) at up zero zero h l = omega arith
+  rising_at low (suc n) at up zero (suc j) h l = grind (arith, rising_from (suc (key at)) n (at + 90) up.1 j (omega arith))
+  rising_at low (suc n) at up (suc i) zero h l = absurd (omega arith)
+  rising_at low (suc n) at up (suc i) (suc j) h l = grind (arith, rising_at (suc (key at)) n (at + 90) up.1 i j (omega arith) (omega arith))
 
-      pub serves_first : Ascending 0 (map (λ b. b.size) (bands file n at)) → Serving file size served_by at bands_behind
-      serves_first rising = record { low = suc (band_at file at).size; rising = (subst (λ bs. Ascending 0 (map (λ b. b.size) bs)) first_band_lem rising).1; is = refl }
+  -- THE SEARCH in the sizes behind the first, as a slice has them
+  module _ {at : ℕ} {sizes slice : List ℕ} (is : slice ≡ sizes) (some : 1 ≤ length sizes) (u : SizesOf file (length sizes) at sizes) where
+    abbrev later : List ℕ
+    later = between 1 (length slice) slice
 
-      pub served_is : (size ≡ 0 → ⊥) → served_by ≡ band_for (bands file n at) size
+    later_many : length later ≡ length sizes - 1
+    later_many = omega (arith, ap length is, length-between slice 1 (length slice) (le_refl _))
+
+    later_size : (j d : ℕ) → suc j < length sizes → get_or later j d ≡ key (at + suc j * 90)
+    later_size j d h =
+        get_or-between slice 1 (length slice) j d (omega (arith, ap length is)) ∙ there slice (1 + j) d 0 (omega (arith, ap length is)) ∙ ap (λ xs. get_or xs (1 + j) 0) is
+        ∙ u.each (1 + j) (omega arith) ∙ grind arith
+
+    pub later_parted : Ascending 0 (map (λ b. b.size) (bands file (length sizes) at)) → IsPartitionedBy (λ y. leb y size) later
+    later_parted up = IsPartitionedBy-leb (λ y. y) later size (λ i j d h l.
+        omega (arith, later_many, later_size i d (omega (arith, later_many)), later_size j d (omega (arith, later_many)), rising_at 0 (length sizes) at up (suc i) (suc j) (omega arith) (omega (arith, later_many))))
+
+    module _ {k : ℕ} (few : k ≤ length later) where
+      pub later_few : k < length sizes
+      later_few = omega (arith, later_many)
+
+      pub serves : {place : ℕ} → place ≡ at + k * 90 → IsPartitionPoint (λ y. leb y size ≡ true) (λ y. leb y size ≡ false) later k → (size ≡ 0 → ⊥) → band_at file place ≡ band_for (bands file (length sizes) at) size
       unfolding latest band_for first_band
-      served_is s =
-          ap (λ b. latest (λ b. b.size) (λ b. b) b bands_behind size) (sym (cond_same (leb (band_at file at).size size) (band_at file at)))
-          ∙ sym (ap (λ bs. band_for bs size) first_band_lem ∙ simp (ne_eqb size 0 s))
-
--- when no band is left
-pub serves_last : {file : List ℕ} {size best : ℕ} {served : Band} → Serving file size served best [] → band_at file best ≡ served
-unfolding latest
-serves_last u = u.is
+      serves e point real =
+          ap (band_at file) e
+          ∙ sym (served_at (length sizes - 1) at k (omega (arith, later_many))
+          (λ j l. omega (arith, leb-true _ _ (point.0 j 0 zero-le l), later_size j 0 (omega (arith, later_many))))
+          (λ j l r. omega (arith, leb-false _ _ (point.1 j 0 l (omega (arith, later_many))), later_size j 0 (omega (arith, later_many)))))
+          ∙ sym (ap (λ bs. band_for bs size) (read_one (band_at file) (λ at b. after_band at) (length sizes) at (omega arith) (refl, refl)) ∙ grind (arith, nat_tests))

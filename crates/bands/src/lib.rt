@@ -1,65 +1,61 @@
 #![tactic(auto)]
 // The bands of a tariff: their sizes, and the band that serves a size.
-ghost use Rattle.std.specs.Prelude.{◌≡◌, ◌≤◌, ◌<◌, ◌^◌, map};
+ghost use Rattle.std.specs.Prelude.{◌≡◌, ◌≤◌, ◌<◌, ◌^◌, map, length};
 ghost use Rattle.rules.specs.Lists.{Ascending};
 ghost use Rattle.rules.specs.File.{bands as bands_from, after_bands};
 ghost use Rattle.rules.specs.Charges.{no_band, band_for};
-ghost use Rattle.bands.specs.Bands.{SizesOf};
 
+use arrayvec::ArrayVec;
 use bits::Cursor;
+use records::{BAND_BITS, Records};
 use rules::Band;
 
+#[tactic(auto, unfolding(rules::specs::Charges::no_band))]
 fn no_band() -> Band
     ensures { result ≡ no_band }
 {
-    Band {
-        size: 0,
-        annual: 0,
-        allowance: 0,
-        threshold: 0,
-    }
+    Band::default()
 }
 
-// The sizes of a tariff's bands, of which it has at most 24. A band has 90 bits, and its size comes first. Every meter of the file looks its band
-// up in them, so that they are read from the file once, and not again for each meter.
-pub fn band_sizes(file: &[u8], c: Cursor, count: u64) -> [u64; 24]
-    requires { (count ≤ 24) × (after_bands c.at (bands_from file.now count c.at) < 2 ^ 32) }
-    ensures { SizesOf file.now count c.at result }
-{
-    let bands = count as usize;
-    let mut sizes = [0u64; 24];
-    let mut next = c;
-    let mut k: usize = 0;
-    while k < bands {
-        let taken = next.take(file, 16);
-        sizes[k] = taken.value;
-        next = Cursor { at: next.at + 90 };
-        k += 1;
-    }
-    sizes
+// The bands of a tariff, of which it has at most 24: where the first one stands in the file, and their sizes. Every meter of the file looks its band
+// up in the sizes, so that they are read from the file once, and not again for each meter.
+#[derive(Drop)]
+pub struct Bands {
+    pub first: Cursor,
+    pub sizes: ArrayVec<u64, 24>,
 }
 
-// The band that serves a tariff size, of at least one band, whose sizes are lent: only the band that serves is read from the file. The sizes ascend,
-// so that the first one above the size ends the search.
-pub fn band_for<'a>(file: &'a [u8], c: Cursor, count: u64, sizes: &'a [u64], size: u64) -> Band
-    requires le_count { (1 ≤ count) × (after_bands c.at (bands_from file.now count c.at) < 2 ^ 32) × Ascending 0 (map (λ b. b.size) (bands_from file.now count c.at)) }
-    requires sizes_of { SizesOf file.now count c.at sizes.now }
-    ensures { result ≡ band_for (bands_from file.now count c.at) size }
-{
-    if size == 0 {
-        return no_band();
-    }
-    let mut best = c;
-    let mut k: usize = 1;
-    let mut left = count - 1;
-    while 0 < left {
-        if size < sizes[k] {
-            break;
+impl Bands {
+    ghost use Rattle.bands.specs.Bands.{SizesOf, BandsOf, bands_in};
+
+    // The bands that stand in a file.
+    pub fn read(file: &[u8], list: Records) -> Bands
+        requires { (list.count ≤ 24) × (after_bands list.first.at (bands_from file.now list.count list.first.at) < 2 ^ 32) }
+        ensures { BandsOf file.now list.count result × (result.first ≡ list.first) }
+    {
+        let first = list.first;
+        let mut sizes = ArrayVec::new();
+        for k in 0..list.count {
+            let band = first.past(k, BAND_BITS);
+            sizes.push(records::band_size(file, band));
         }
-        best = Cursor { at: best.at + 90 };
-        k += 1;
-        left -= 1;
+        Bands { first, sizes }
     }
-    let taken = records::band(file, best);
-    taken.value
+
+    // The band that serves a tariff size, of at least one band. Their sizes ascend, and only the band that serves is read from the file: the last one
+    // that is not above the size, or the first one.
+    #[tactic(auto, unfolding(rules::specs::Charges::band_for))]
+    pub fn serving(&self, file: &[u8], size: u64) -> Band
+        requires le_count { (1 ≤ length self.now.sizes.items) × (after_bands self.now.first.at (bands_in file.now self.now) < 2 ^ 32) × Ascending 0 (map (λ b. b.size) (bands_in file.now self.now)) }
+        requires sizes_of { SizesOf file.now (length self.now.sizes.items) self.now.first.at self.now.sizes.items }
+        ensures { result ≡ band_for (bands_in file.now self.now) size }
+    {
+        if size == 0 {
+            return no_band();
+        }
+        let later = &self.sizes.as_slice()[1..];
+        let k = later.partition_point(|s| *s <= size);
+        let band = self.first.past(k as u64, BAND_BITS);
+        records::band(file, band).value
+    }
 }

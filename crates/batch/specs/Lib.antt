@@ -1,1 +1,1 @@
--- No definition of its own.
+pub mod Batch

@@ -1,7 +1,12 @@
 #![tactic(auto)]
 // A batch on standard input: cases one after the other, each of three numbers of 4 bytes, most significant first (the length of the file, the
 // entries of the table lent, the bytes of report space lent), and then the file's bytes.
-ghost use Rattle.std.specs.Prelude.{◌≡◌, ◌≤◌, ◌<◌, min, length};
+ghost use Rattle.std.specs.Prelude.{◌≡◌, ◌≤◌, ◌<◌, length, take, true, false, ◌+◌, IfOk, OnOk, IfSome, IsNone};
+ghost use Rattle.std.specs.Io.KnownBytes.{Consumes, IsAtEnd};
+ghost use Rattle.batch.specs.Batch.{number, Loses, EndsBefore, Reads, NoCase, Answered};
+
+use std::io;
+use std::io::Read;
 
 // The most cases of a batch.
 pub const CASES: u64 = 1000000;
@@ -13,92 +18,102 @@ pub fn room() -> [u8; 65537]
     [0; 65537]
 }
 
-fn wide(x: u8) -> usize
-    ensures { result < 256 }
+// The number of a head's four bytes from a place on.
+#[tactic(auto, unfolding(crate::specs::Batch::number))]
+fn number_at(head: [u8; 12], at: usize) -> usize
+    requires { at + 4 ≤ 12 }
+    ensures { result ≡ number head at }
 {
-    x as usize
+    u32::from_be_bytes([head[at], head[at + 1], head[at + 2], head[at + 3]]) as usize
 }
 
-// The i-th of a case's three numbers, from 0.
-fn number_at(head: [u8; 12], i: usize) -> usize
-    requires { i < 3 }
+// Reads until the space is full or the input ends, and hands back how many bytes it put at the front of the space.
+#[tactic(auto, using(crate::proofs::Parts::read_more))]
+pub fn read_full<R: Read>(input: &mut R, space: &mut [u8]) -> io::Result<usize>
+    ensures within { IfOk result (λ n. n ≤ length space.new) }
+    ensures same_length { length space.new ≡ length space.old }
+    ensures bytes { IfOk result (λ n. Consumes (R.remaining input.old) (R.remaining input.new) (take n space.new)) }
+    ensures end { IfOk result (λ n. n < length space.new → IsAtEnd (R.remaining input.new)) }
 {
-    let at = 4 * i;
-    let high = wide(head[at]) * 256 + wide(head[at + 1]);
-    let low = wide(head[at + 2]) * 256 + wide(head[at + 3]);
-    high * 65536 + low
-}
-
-// The lesser of two.
-pub fn least(a: usize, b: usize) -> usize
-    ensures { result ≡ min a b }
-{
-    if a < b { a } else { b }
-}
-
-// Reads so many bytes and keeps none; false where the input ends before them.
-fn passed_over(space: &mut [u8], count: usize) -> bool {
-    let mut left = count;
-    while left > 0 {
-        let part = least(left, space.len());
-        if part == 0 {
-            return false;
+    let mut done: usize = 0;
+    // A `while`: it goes by what each read gives, and std has no call that fills a slice and says how much it read.
+    while done < space.len() {
+        let n = input.read(&mut space[done..])?;
+        if n == 0 {
+            break;
         }
-        let n = io::read_full(0, &mut space[..part]);
-        if n < part {
-            return false;
-        }
-        left -= part;
+        done += n;
     }
-    true
+    Ok(done)
 }
 
-// A case that was read into a space: whether there is one, how much of its file was kept, and what is to be lent, entries of a table and bytes of
-// report space.
-#[derive(Drop)]
-pub struct Case {
-    pub there: bool,
-    pub kept: usize,
+// Reads so many bytes and keeps none; false where the input ends before them. There is no value beside the answer, so it stays a flag.
+fn passed_over<R: Read>(input: &mut R, count: usize) -> io::Result<bool>
+    ensures passed { IfOk result (λ all. all ≡ true → Loses (R.remaining input.old) (R.remaining input.new) count) }
+    ensures ended { IfOk result (λ all. all ≡ false → EndsBefore (R.remaining input.old) count) }
+{
+    let mut waste = [0u8; 4096];
+    for done in (0..count).step_by(waste.len()) {
+        let part = (count - done).min(waste.len());
+        let n = read_full(input, &mut waste[..part])?;
+        if n < part {
+            return Ok(false);
+        }
+    }
+    Ok(true)
+}
+
+// A case that was read: its file, and what is to be lent, entries of a table and bytes of report space.
+#[derive(Clone, Copy)]
+pub struct Case<'a> {
+    pub file: &'a [u8],
     pub entries: usize,
     pub bytes: usize,
 }
 
-fn no_case() -> Case
-    ensures { result.kept ≡ 0 }
-{
-    Case {
-        there: false,
-        kept: 0,
-        entries: 0,
-        bytes: 0,
-    }
-}
-
-// Reads the next case's file into the space. Of a longer file only the space is filled.
-pub fn next_case(space: &mut [u8]) -> Case
-    ensures { (result.kept ≤ length space.new) × (length space.new ≡ length space.old) }
+// Reads the next case's file into the space; none where the batch ends. Of a longer file only what the space holds is kept. The clauses on bytes
+// hold of an input whose bytes are known.
+pub fn next_case<'a, R: Read>(input: &mut R, space: &'a mut [u8]) -> io::Result<Option<Case<'a>>>
+    ensures within { IfOk result (λ found. IfSome found (λ case. length case.file.now ≤ length space.old)) }
+    ensures read { IfOk result (λ found. IfSome found (λ case. Reads (R.remaining input.old) (R.remaining input.new) (length space.old) case)) }
+    ensures none { IfOk result (λ found. IsNone found → NoCase (R.remaining input.old)) }
 {
     let mut head = [0u8; 12];
-    let n = io::read_full(0, &mut head);
+    let n = read_full(input, &mut head)?;
     if n < 12 {
-        return no_case();
+        return Ok(None);
     }
     let size = number_at(head, 0);
-    let kept = least(size, space.len());
-    let m = io::read_full(0, &mut space[..kept]);
+    let kept = size.min(space.len());
+    let m = read_full(input, &mut space[..kept])?;
     if m < kept {
-        return no_case();
+        return Ok(None);
     }
-    if size > kept {
-        let mut waste = [0u8; 4096];
-        if !passed_over(&mut waste, size - kept) {
-            return no_case();
-        }
+    if !passed_over(input, size - kept)? {
+        return Ok(None);
     }
-    Case {
-        there: true,
-        kept,
-        entries: number_at(head, 1),
-        bytes: number_at(head, 2),
+    Ok(Some(Case {
+        file: &space[..kept],
+        entries: number_at(head, 4),
+        bytes: number_at(head, 8),
+    }))
+}
+
+// Reads the cases of a batch and has each answered, with its number from 0, before the next is read. It ends where the batch does, or where an
+// answer fails.
+pub fn for_each_case<R: Read, F: FnMut(u64, Case) -> io::Result<()>>(
+    input: &mut R,
+    mut answer: F,
+) -> io::Result<()>
+    requires { F.IsAlwaysCallable answer }
+    ensures { OnOk result ((last : F) × Answered F.step (R.remaining input.old) answer last) }
+{
+    let mut space = room();
+    for number in 0..CASES {
+        let Some(case) = next_case(input, &mut space)? else {
+            return Ok(());
+        };
+        answer(number, case)?;
     }
+    Ok(())
 }

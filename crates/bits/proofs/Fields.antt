@@ -1,20 +1,26 @@
 -- Laws of fields over a file's bytes: whole bytes are a field, and a field is the whole bytes that hold it, cut at both ends. Assumes nothing.
-use Prim.Native.Nat.{ℕ, zero, suc, ◌+◌, ◌-◌, ◌*◌, ◌/◌, ◌%◌, ◌^◌, ◌<◌, ◌≤◌}
-use mathlib.Core.Path.{◌≡◌, sym, ◌∙◌, ap, ap₂, subst}
-use mathlib.Core.List.{List}
-use native.Mathlib.Nat.{one-mul, mod-eq_of_lt, lt_of_lt_of_le}
+use Prim.Native.Nat.{ℕ, zero, suc, ◌+◌, ◌-◌, ◌*◌, ◌/◌, ◌%◌, ◌^◌, ◌≤◌}
+use mathlib.Core.Path.{◌≡◌, sym, ◌∙◌, ap, ap₂}
+use mathlib.Core.List.{List, [], ◌∷◌}
 use native.Mathlib.Omega.{arith}
 use lib.ListN.{get_or}
-use lib.Pow.{field as digits, pow_pos, pow-lt, pow_mono, shl-shr, shr-shr}
+use lib.Pow.{field as digits, shl-shr, shr-shr}
 use Rattle.rules.specs.Field.{field}
-use Rattle.rules.proofs.Fields.{field_lt, field_split, field_part}
-use Rattle.bits.specs.Bytes.{big_endian}
+use Rattle.rules.proofs.Fields.{field_split, field_part}
+use Rattle.std.proofs.Common.{Fits, w8, w64, rules}
+use Rattle.std.specs.Int.{from_le_bytes, from_be_bytes, swap_bytes}
+use Rattle.std.proofs.lemmas.Nat.{le_bytes_8}
 
-module _ (b : List ℕ) (k : ℕ) (h : get_or b k 0 < 256) where
+-- a field of no bits
+pub field_none : (b : List ℕ) (at : ℕ) {w : ℕ} → w ≡ 0 → 0 ≡ field b at w
+unfolding field
+field_none b at e = rw e
+
+module _ (b : List ℕ) (bytes : (i : ℕ) → Fits w8 (get_or b i 0)) (k : ℕ) where
   -- the first n bits of a byte
   byte_front : (n : ℕ) → n ≤ 8 → field b (k * 8) n ≡ get_or b k 0 / 2 ^ (8 - n)
   unfolding field
-  byte_front zero l = omega arith
+  byte_front zero l = let h = (bytes k).fits in omega arith
   byte_front (suc n) l =
       let byte : (k * 8 + n) / 8 ≡ k = omega arith in
       let place : (k * 8 + n) % 8 ≡ n = omega arith in
@@ -22,46 +28,33 @@ module _ (b : List ℕ) (k : ℕ) (h : get_or b k 0 < 256) where
       let after : 8 - suc n ≡ 7 - n = omega arith in
       rw (byte_front n (omega arith), byte, place, before, ← shr-shr, after) (omega arith)
 
-  field_byte : field b (k * 8) 8 ≡ get_or b k 0
-  field_byte = byte_front 8 (omega arith) ∙ omega arith
+  field_byte : get_or b k 0 ≡ field b (k * 8) 8
+  field_byte = sym (byte_front 8 (omega arith) ∙ omega arith)
 
--- a byte of a file
-abbrev pub ByteOf : List ℕ → ℕ → ℕ → Type 0
-ByteOf b k y = (y ≡ get_or b k 0) × (y < 256)
+module _ (b : List ℕ) (bytes : (i : ℕ) → Fits w8 (get_or b i 0)) (k : ℕ) where
+  -- n bytes and one more
+  field_more : (n : ℕ) {x : ℕ} → x ≡ field b (k * 8) (n * 8) → x * 256 + get_or b (k + n) 0 ≡ field b (k * 8) (n * 8 + 8)
+  field_more n e =
+      ap₂ (λ (u v : ℕ). u * 256 + v) e (field_byte b bytes (k + n) ∙ ap (λ (a : ℕ). field b a 8) (omega arith)) ∙ sym (field_split b (k * 8) (n * 8) 8)
 
--- no bits, a byte, and n bytes and one more
-pub field_none : (b : List ℕ) (at : ℕ) {w : ℕ} → w ≡ 0 → 0 ≡ field b at w
-unfolding field
-field_none b at e = rw e
+  -- eight bytes, the first the most significant
+  pub field_eight : {w : ℕ}
+      → w ≡ get_or b k 0 * 2 ^ 56 + get_or b (k + 1) 0 * 2 ^ 48 + get_or b (k + 2) 0 * 2 ^ 40 + get_or b (k + 3) 0 * 2 ^ 32
+      + get_or b (k + 4) 0 * 2 ^ 24 + get_or b (k + 5) 0 * 2 ^ 16 + get_or b (k + 6) 0 * 2 ^ 8 + get_or b (k + 7) 0
+      → w ≡ field b (k * 8) 64
+  field_eight {w} e =
+      let two = field_more 1 (field_byte b bytes k) in
+      let four = field_more 3 (field_more 2 two) in
+      let six = field_more 5 (field_more 4 four) in
+      let eight = field_more 7 (field_more 6 six) in
+      omega (arith, e, eight)
 
-field_first : (b : List ℕ) (k : ℕ) {y : ℕ} → ByteOf b k y → y ≡ field b (k * 8) 8
-field_first b k q = q.0 ∙ sym (field_byte b k (subst (λ (z : ℕ). z < 256) q.0 q.1))
-
-pub field_more : (b : List ℕ) (k n : ℕ) {x y : ℕ} → x ≡ field b (k * 8) (n * 8) → ByteOf b (k + n) y → x * 256 + y ≡ field b (k * 8) (n * 8 + 8)
-field_more b k n p q =
-    ap₂ (λ (u v : ℕ). u * 256 + v) p (field_first b (k + n) q ∙ ap (λ (a : ℕ). field b a 8) (omega arith))
-    ∙ sym (field_split b (k * 8) (n * 8) 8)
-
--- one byte more fits in 64 bits
-pub before_small : (b : List ℕ) (at n : ℕ) {x : ℕ} → n < 8 → x ≡ field b at (n * 8) → x < 2 ^ 56
-before_small b at n h e = rw e (lt_of_lt_of_le (field_lt b at (n * 8)) (pow_mono {j = 56} (omega arith)))
-
--- eight bytes, the first the most significant
-pub field_eight : (b : List ℕ) (k : ℕ) {b0 b1 b2 b3 b4 b5 b6 b7 : ℕ} → ByteOf b k b0 → ByteOf b (k + 1) b1 → ByteOf b (k + 2) b2 → ByteOf b (k + 3) b3
-    → ByteOf b (k + 4) b4 → ByteOf b (k + 5) b5 → ByteOf b (k + 6) b6 → ByteOf b (k + 7) b7 → big_endian b0 b1 b2 b3 b4 b5 b6 b7 ≡ field b (k * 8) 64
-field_eight b k {b0} {b1} {b2} {b3} {b4} {b5} {b6} {b7} p0 p1 p2 p3 p4 p5 p6 p7 =
-    let horner : big_endian b0 b1 b2 b3 b4 b5 b6 b7 ≡ ((((((b0 * 256 + b1) * 256 + b2) * 256 + b3) * 256 + b4) * 256 + b5) * 256 + b6) * 256 + b7 = omega arith in
-    let two = field_more b k 1 (field_first b k p0) p1 in
-    let four = field_more b k 3 (field_more b k 2 two p2) p3 in
-    let six = field_more b k 5 (field_more b k 4 four p4) p5 in
-    horner ∙ field_more b k 7 (field_more b k 6 six p6) p7
-
--- `1u64 << w`
-pub one_shl : (w : ℕ) → w < 64 → 1 * 2 ^ w % 2 ^ 64 ≡ 2 ^ w
-one_shl w h = rw one-mul (mod-eq_of_lt (pow-lt h))
-
-pub one_shl_pos : (w : ℕ) → w < 64 → 0 < 1 * 2 ^ w % 2 ^ 64
-one_shl_pos w h = rw (one_shl w h) (pow_pos w)
+-- eight bytes joined the least significant first, and then turned round
+pub turned : {b0 b1 b2 b3 b4 b5 b6 b7 w v : ℕ} → Fits w8 b0 → Fits w8 b1 → Fits w8 b2 → Fits w8 b3 → Fits w8 b4 → Fits w8 b5 → Fits w8 b6 → Fits w8 b7
+    → w ≡ from_le_bytes w64 (b0 ∷ b1 ∷ b2 ∷ b3 ∷ b4 ∷ b5 ∷ b6 ∷ b7 ∷ []) → v ≡ swap_bytes w64 w
+    → v ≡ from_be_bytes w64 (b0 ∷ b1 ∷ b2 ∷ b3 ∷ b4 ∷ b5 ∷ b6 ∷ b7 ∷ [])
+turned {b0} {b1} {b2} {b3} {b4} {b5} {b6} {b7} {w} f0 f1 f2 f3 f4 f5 f6 f7 e t =
+    t ∙ ap (from_be_bytes w64) (le_bytes_8 (b0 ∷ b1 ∷ b2 ∷ b3 ∷ b4 ∷ b5 ∷ b6 ∷ b7 ∷ []) w (search rules) (search rules) e)
 
 -- bits shifted out at the front, and then t at the end
 shifted : (n skip w t : ℕ) → n * 2 ^ skip % 2 ^ (w + (skip + t)) / 2 ^ (skip + t) ≡ n / 2 ^ t % 2 ^ w

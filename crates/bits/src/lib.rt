@@ -4,52 +4,25 @@ ghost use Rattle.std.specs.Prelude.{◌≡◌, ◌+◌, ◌*◌, ◌≤◌, ◌<
 ghost use Rattle.rules.specs.Field.{field};
 ghost use Rattle.bits.specs.Took.{Took};
 ghost use Rattle.bits.specs.CutOut.{CutOut};
-ghost use Rattle.bits.specs.Bytes.{Turned};
 
 // A position in a file, in bits.
-#[derive(Drop)]
+#[derive(Clone, Copy, PartialEq, Eq)]
 pub struct Cursor {
     pub at: usize,
 }
 
-// A field's value, and the cursor after it.
-#[derive(Drop)]
-pub struct Taken {
-    pub value: u64,
+// What stood at a cursor, a field or a record of several, and the cursor after it.
+#[derive(Clone, Copy, PartialEq, Eq)]
+pub struct Taken<T> {
+    pub value: T,
     pub next: Cursor,
 }
 
-// The byte at an index that is there.
-fn byte_there(file: &[u8], i: usize) -> u64
-    requires { i < length file.now }
-    ensures { (result ≡ get_or file.now i 0) × (result < 256) }
-{
-    file[i] as u64
-}
-
 // The byte at an index, and 0 past the end.
-fn byte(file: &[u8], i: usize) -> u64
-    ensures { (result ≡ get_or file.now i 0) × (result < 256) }
+fn byte(file: &[u8], i: usize) -> u8
+    ensures { result ≡ get_or file.now i 0 }
 {
-    if i < file.len() {
-        byte_there(file, i)
-    } else {
-        0
-    }
-}
-
-// A number with its eight bytes in the other order.
-fn turned(w: u64) -> u64
-    ensures { Turned w result }
-{
-    w % 256 * 0x100_0000_0000_0000
-        + w / 0x100 % 256 * 0x1_0000_0000_0000
-        + w / 0x1_0000 % 256 * 0x100_0000_0000
-        + w / 0x100_0000 % 256 * 0x1_0000_0000
-        + w / 0x1_0000_0000 % 256 * 0x100_0000
-        + w / 0x100_0000_0000 % 256 * 0x1_0000
-        + w / 0x1_0000_0000_0000 % 256 * 0x100
-        + w / 0x100_0000_0000_0000
+    file.get(i).copied().unwrap_or(0)
 }
 
 // The eight bytes from an index on, all of which are there, as one number. They are joined as the machine has them, the least significant first,
@@ -60,44 +33,28 @@ fn eight_there(file: &[u8], i: usize) -> u64
     requires { i + 8 ≤ length file.now }
     ensures { result ≡ field file.now (i * 8) 64 }
 {
-    let b0 = byte_there(file, i);
-    let b1 = byte_there(file, i + 1);
-    let b2 = byte_there(file, i + 2);
-    let b3 = byte_there(file, i + 3);
-    let b4 = byte_there(file, i + 4);
-    let b5 = byte_there(file, i + 5);
-    let b6 = byte_there(file, i + 6);
-    let b7 = byte_there(file, i + 7);
-    turned(
-        b0 + b1 * 0x100
-            + b2 * 0x1_0000
-            + b3 * 0x100_0000
-            + b4 * 0x1_0000_0000
-            + b5 * 0x100_0000_0000
-            + b6 * 0x1_0000_0000_0000
-            + b7 * 0x100_0000_0000_0000,
-    )
+    u64::from_le_bytes([
+        file[i],
+        file[i + 1],
+        file[i + 2],
+        file[i + 3],
+        file[i + 4],
+        file[i + 5],
+        file[i + 6],
+        file[i + 7],
+    ])
+    .swap_bytes()
 }
 
-// Some bytes from an index on, each asked for by itself, as one number. It calls itself, so that the compiler keeps it apart: it serves the end
-// of a file alone, and what calls it stays small enough to be copied into every reader.
-fn last_bytes(file: &[u8], i: usize, count: usize) -> u64
-    requires { (count ≤ 8) × (i < 2 ^ 60) }
-    ensures { result ≡ field file.now (i * 8) (count * 8) }
-{
-    if count == 0 {
-        return 0;
-    }
-    let before = count - 1;
-    last_bytes(file, i, before) * 256 + byte(file, i + before)
-}
-
-// The eight bytes from an index on, each asked for by itself. The slice is set down in memory for `last_bytes` here, and so only near the end.
+// The eight bytes from an index on, each asked for by itself. Only the end of a file needs it, so it is kept apart: what calls it stays small
+// enough to be copied into every reader.
+#[cold]
+#[inline(never)]
 fn eight_last(file: &[u8], i: usize) -> u64
     requires { i < 2 ^ 60 }
     ensures { result ≡ field file.now (i * 8) 64 }
 {
-    last_bytes(file, i, 8)
+    u64::from_be_bytes(std::array::from_fn(|k| byte(file, i + k)))
 }
 
 // The eight bytes from an index on, as one number.
@@ -115,7 +72,7 @@ impl Cursor {
     // The field of a width at the cursor. Eight bytes hold 57 bits, wherever in the first of them these start. Bits past the end are 0, so that
     // a record is read whole before its length is judged. The bits before the field are shifted out first, so that the second shift is by a
     // constant where the width is one. A field of no bits has a case of its own, since a number isn't shifted by all its 64.
-    pub fn take(self, file: &[u8], width: u32) -> Taken
+    pub fn take(self, file: &[u8], width: u32) -> Taken<u64>
         requires { (width ≤ 57) × (self.at + width < 2 ^ 62) }
         ensures { Took file.now self.at width result.value result.next.at }
     {
@@ -134,6 +91,15 @@ impl Cursor {
                 at: at + width as usize,
             },
         }
+    }
+
+    // The cursor past so many records of a width.
+    pub fn past(self, count: u64, width: usize) -> Cursor
+        requires { self.at + count * width < 2 ^ 64 }
+        ensures { result.at ≡ self.at + count * width }
+    {
+        let at = self.at + count as usize * width;
+        Cursor { at }
     }
 }
 

@@ -3,232 +3,126 @@
 // how many of the entries lent are past the answer and as they were found; then a line for each row, and one for each statement up to the first
 // that is refused. A line `report` has the answer and how many of the bytes lent are past it and as they were found; then the report, where one
 // was written. At most 80 entries and 65,536 bytes are lent, whatever the batch asks.
-ghost use Rattle.std.specs.Prelude.{◌≡◌, ◌≤◌, ◌<◌, length};
+use batch::Case;
+use rules::{Centipence, Days, Litres, Row, Statement};
+use std::io::Write;
+use std::{array, fmt, io};
 
-use rules::{Centipence, Days, Litres, Row, RowsAnswer, StatementAnswer};
+// Four charges as a line has them.
+#[derive(Clone, Copy)]
+struct Charges([Centipence; 4]);
 
-fn print_number(n: u64) {
-    io::write_all(1, b" ");
-    io::print_decimal(1, n);
-}
-
-fn print_charges(charges: [Centipence; 4]) {
-    print_number(charges[0].0);
-    print_number(charges[1].0);
-    print_number(charges[2].0);
-    print_number(charges[3].0);
-    io::write_all(1, b"\n");
-}
-
-fn print_row(row: Row) {
-    let days = row.days;
-    let litres = row.litres;
-    let charges = row.charges;
-    io::write_all(1, b"row");
-    print_number(row.provider);
-    print_number(days.0);
-    print_number(litres.0);
-    print_charges(charges);
+impl fmt::Display for Charges {
+    fn fmt<W: fmt::Write>(&self, f: &mut fmt::Formatter<W>) -> fmt::Result {
+        let [meter, volumetric, property, roads] = self.0;
+        write!(f, "{} {} {} {}", meter.0, volumetric.0, property.0, roads.0)
+    }
 }
 
 // The most entries that are lent: more than any answer has rows.
 const ENTRIES: usize = 80;
 
 // What an entry of the table holds before the call: no row of an answer, and no two alike.
-fn row_found(place: usize) -> Row
-    requires { place < 80 }
-{
-    let n = place as u64;
+fn row_found(place: usize) -> Row {
+    let most = u64::MAX - place as u64;
     Row {
-        provider: 4294967296 + n,
-        days: Days(18446744073709551615),
-        litres: Litres(18446744073709551615 - n),
+        provider: most,
+        days: Days(u64::MAX),
+        litres: Litres(most),
         charges: [Centipence(1), Centipence(2), Centipence(3), Centipence(4)],
     }
 }
 
-fn table_found() -> [Row; ENTRIES]
-    ensures { length result ≡ 80 }
-{
-    let row = row_found(0);
-    let mut table = [row; ENTRIES];
-    for i in 0..ENTRIES {
-        let found = row_found(i);
-        table[i] = found;
-    }
-    table
-}
-
-// One where two rows are alike, and else none.
-fn alike(a: Row, b: Row) -> u64
-    ensures { result ≤ 1 }
-{
-    let days = a.days;
-    let other_days = b.days;
-    let litres = a.litres;
-    let other_litres = b.litres;
-    let c = a.charges;
-    let d = b.charges;
-    let same = (a.provider == b.provider)
-        & (days.0 == other_days.0)
-        & (litres.0 == other_litres.0)
-        & (c[0].0 == d[0].0)
-        & (c[1].0 == d[1].0)
-        & (c[2].0 == d[2].0)
-        & (c[3].0 == d[3].0);
-    if same { 1 } else { 0 }
-}
-
-// How many of the entries lent are as found, from a place on.
-fn rows_kept(table: [Row; ENTRIES], from: usize, lent: usize) -> u64
-    requires { lent ≤ 80 }
-{
-    let mut kept: u64 = 0;
-    let mut i = from;
-    while i < lent {
-        let row = table[i];
-        let found = row_found(i);
-        kept += alike(row, found);
-        i += 1;
-    }
-    kept
-}
-
-fn print_table(answer: RowsAnswer, table: [Row; ENTRIES], lent: usize)
-    requires { lent ≤ 80 }
-{
-    let count = answer.count;
-    io::write_all(1, b"rows");
-    print_number(answer.number);
-    print_number(count as u64);
-    print_number(rows_kept(table, count, lent));
-    io::write_all(1, b"\n");
-    for i in 0..ENTRIES {
-        if i < count {
-            let row = table[i];
-            print_row(row);
-        }
-    }
-}
-
-// The one function here that has the table by reference.
-fn print_rows(file: &[u8], entries: usize) {
-    let lent = batch::least(entries, ENTRIES);
-    let mut table = table_found();
-    let answer = unit::rows(file, &mut table[..lent]);
-    print_table(answer, table, lent);
-}
-
-fn print_statement(place: u64, answer: StatementAnswer) {
-    let s = answer.statement;
-    let days = s.days;
-    let litres = s.litres;
-    let disconnected = s.disconnected;
-    let volume = s.volume;
-    let cost = s.year_cost;
-    let charges = s.charges;
-    io::write_all(1, b"statement");
-    print_number(place);
-    print_number(answer.number);
-    print_number(days.0);
-    print_number(litres.0);
-    print_number(disconnected.0);
-    print_number(volume.0);
-    print_number(cost.0);
-    print_charges(charges);
-}
-
-// No file has more than 64 points, so that the 65th place is refused.
-fn print_statements(file: &[u8]) {
-    for place in 0..65 {
-        let answer = unit::statement(file, place);
-        print_statement(place, answer);
-        if answer.number != 0 {
-            break;
-        }
-    }
-}
+// The most bytes of report space that are lent.
+const BYTES: usize = 65536;
 
 // What a byte of the report space holds before the call: no byte of a text, and no two neighbours alike.
 fn byte_found(place: usize) -> u8 {
     128 + (place % 127) as u8
 }
 
-fn fill(space: &mut [u8]) {
-    let mut i: usize = 0;
-    while i < space.len() {
-        space[i] = byte_found(i);
-        i += 1;
-    }
-}
-
-// One where a byte is as found, and else none.
-fn as_found(byte: u8, place: usize) -> u64
-    ensures { result ≤ 1 }
+// How many of those lent are as found, from a place on.
+fn kept_from<T: PartialEq + Drop, F: Fn(usize) -> T>(lent: &[T], from: usize, found: F) -> usize
+    requires { F.IsAlwaysCallable found }
 {
-    if byte == byte_found(place) { 1 } else { 0 }
+    lent.iter()
+        .enumerate()
+        .skip(from)
+        .filter(|(place, one)| **one == found(*place))
+        .count()
 }
 
-// How many bytes from a place on are as found.
-fn kept_from(space: &[u8], from: usize) -> u64 {
-    let mut kept: u64 = 0;
-    let mut i = from;
-    while i < space.len() {
-        kept += as_found(space[i], i);
-        i += 1;
+fn print_rows<W: Write>(out: &mut W, case: Case) -> io::Result<()> {
+    let mut table: [Row; ENTRIES] = array::from_fn(row_found);
+    let lent = &mut table[..case.entries.min(ENTRIES)];
+    let (number, count) = match unit::rows(case.file, lent) {
+        Ok(count) => (0, count),
+        Err(breach) => (breach.number(), 0),
+    };
+    let kept = kept_from(lent, count, row_found);
+    writeln!(out, "rows {number} {count} {kept}")?;
+    for row in lent.iter().take(count) {
+        writeln!(
+            out,
+            "row {} {} {} {}",
+            row.provider,
+            row.days.0,
+            row.litres.0,
+            Charges(row.charges)
+        )?;
     }
-    kept
+    Ok(())
 }
 
-fn print_kept(space: &[u8], from: usize) {
-    print_number(kept_from(space, from));
-    io::write_all(1, b"\n");
+fn print_statement<W: Write>(out: &mut W, place: u64, number: u64, s: Statement) -> io::Result<()> {
+    writeln!(
+        out,
+        "statement {place} {number} {} {} {} {} {} {}",
+        s.days.0,
+        s.litres.0,
+        s.disconnected.0,
+        s.volume.0,
+        s.year_cost.0,
+        Charges(s.charges)
+    )
 }
 
-// No report is under 52 bytes, and no refusal's number over 14.
-fn print_report(file: &[u8], space: &mut [u8]) {
-    fill(space);
-    let answer = unit::settlement_report(file, space);
-    io::write_all(1, b"report");
-    print_number(answer);
-    if answer < 52 {
-        print_kept(space, 0);
-        return;
-    }
-    let end = answer as usize;
-    print_kept(space, end);
-    io::write_all(1, &space[..end]);
-}
-
-// Reads a case and prints it; false where there is none.
-fn one_case(space: &mut [u8], lent: &mut [u8], number: u64) -> bool {
-    let case = batch::next_case(space);
-    if !case.there {
-        return false;
-    }
-    let kept = case.kept;
-    let file = &space[..kept];
-    io::write_all(1, b"case");
-    print_number(number);
-    io::write_all(1, b"\n");
-    let entries = case.entries;
-    print_rows(file, entries);
-    print_statements(file);
-    let bytes = batch::least(case.bytes, lent.len());
-    print_report(file, &mut lent[..bytes]);
-    true
-}
-
-fn all_cases(space: &mut [u8], lent: &mut [u8]) {
-    for number in 0..batch::CASES {
-        if !one_case(space, lent, number) {
-            break;
+// No file has more than 64 points, so that the 65th place is refused.
+fn print_statements<W: Write>(out: &mut W, case: Case) -> io::Result<()> {
+    for place in 0..65 {
+        match unit::statement(case.file, place) {
+            Ok(statement) => print_statement(out, place, 0, statement)?,
+            Err(breach) => {
+                return print_statement(out, place, breach.number(), Statement::default());
+            }
         }
     }
+    Ok(())
 }
 
-fn main() {
-    let mut space = batch::room();
-    let mut lent = io::large_buffer();
-    all_cases(&mut space, &mut lent);
+fn print_report<W: Write>(out: &mut W, case: Case) -> io::Result<()> {
+    let mut space: [u8; BYTES] = array::from_fn(byte_found);
+    let lent = &mut space[..case.bytes.min(BYTES)];
+    let (answer, end) = match unit::settlement_report(case.file, lent) {
+        Ok(length) => (length as u64, length),
+        Err(breach) => (breach.number(), 0),
+    };
+    let kept = kept_from(lent, end, byte_found);
+    writeln!(out, "report {answer} {kept}")?;
+    out.write_all(&lent[..end])
+}
+
+fn print_case<W: Write>(out: &mut W, number: u64, case: Case) -> io::Result<()> {
+    writeln!(out, "case {number}")?;
+    print_rows(out, case)?;
+    print_statements(out, case)?;
+    print_report(out, case)
+}
+
+fn main(rt: HostRuntime) -> io::Result<()> {
+    let mut input = rt.stdin();
+    let mut out = rt.stdout();
+    batch::for_each_case(&mut input, |number, case| {
+        print_case(&mut out, number, case)
+    })
 }

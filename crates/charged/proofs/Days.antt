@@ -12,10 +12,10 @@ pub year_days : (year : ℕ) → 2000 ≤ year → april_first (year + 1) ≤ ap
 unfolding april_first
 year_days year h = omega arith
 
-pub charged_of : (year connected disconnected : ℕ) {start end from last : ℕ} {r : Charged} → 2020 ≤ year → start ≡ april_first year → end ≡ april_first (year + 1) →
-    from ≡ max start connected → last ≡ min end disconnected → r.from.0 ≡ from → r.count.0 ≡ last - from → ChargedOf year connected disconnected r
+pub charged_of : (year connected disconnected : ℕ) {r : Charged} → 2020 ≤ year → r.from.0 ≡ max (april_first year) connected →
+    r.count.0 ≡ min (april_first (year + 1)) disconnected - r.from.0 → ChargedOf year connected disconnected r
 unfolding charged_from charged_count
-charged_of year connected disconnected h s e f l rf rc =
+charged_of year connected disconnected h f n =
     record {
       days = λ tariff supply y c d.
           let a = ap april_first y in

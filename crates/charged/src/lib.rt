@@ -4,11 +4,10 @@
 ghost use Rattle.std.specs.Prelude.{◌≡◌, ◌-◌, ◌≤◌, min};
 ghost use Rattle.charged.specs.Charged.{ChargedOf};
 
-use exact::{greatest, least, past};
 use rules::{Day, Days};
 
 // So many days from one on. A point may have none.
-#[derive(Drop)]
+#[derive(Clone, Copy)]
 pub struct Charged {
     pub from: Day,
     pub count: Days,
@@ -19,19 +18,19 @@ pub fn charged_days(year: u64, connected: u64, disconnected: u64) -> Charged
     requires { (2020 ≤ year) × (year ≤ 2098) }
     ensures { ChargedOf year connected disconnected result }
 {
-    let start = Day::first_of_year(year);
-    let end = Day::first_of_year(year + 1);
-    let from = greatest(start.0, connected);
+    let from = Day::first_of_year(year).max(Day(connected));
+    let end = Day::first_of_year(year + 1).min(Day(disconnected));
     Charged {
-        from: Day(from),
-        count: Days(past(least(end.0, disconnected), from)),
+        from,
+        count: Days(end.0.saturating_sub(from.0)),
     }
 }
 
-// The entry of a day among so many from `start` on: 0 before the first, and their count after the last.
-pub fn entry(count: usize, start: u64, day: u64) -> usize
-    ensures { result ≡ min (day - start) count }
-{
-    let i = past(day, start);
-    if i < count as u64 { i as usize } else { count }
+impl Charged {
+    // The entry of a day: 0 before the first, and their count after the last.
+    pub fn entry(self, day: u64) -> usize
+        ensures { result ≡ min (day - self.from.0) self.count.0 }
+    {
+        day.saturating_sub(self.from.0).min(self.count.0) as usize
+    }
 }

@@ -1,178 +1,162 @@
 #![tactic(auto)]
 // The charged days of a supply point, cut at its transfers and conditions: days with one provider and one condition are a span. Each record is read
 // once, in the order of the days.
-ghost use Rattle.std.specs.Prelude.{◌≡◌, ℕ, ◌-◌, ◌≤◌, ◌<◌, ◌^◌, length};
-ghost use Rattle.rules.specs.declared.Condition.{Condition};
+ghost use Rattle.std.specs.Prelude.{◌≡◌, ℕ, List, ◌+◌, ◌-◌, ◌≤◌, ◌<◌, ◌^◌, length};
+ghost use Rattle.rules.specs.File.{transfer_bits, transfer_at, condition_bits, condition_at};
+ghost use Rattle.records.specs.Conditions.{condition_of};
 ghost use Rattle.providers.specs.Runs.{SoundTransfers};
-ghost use Rattle.cuts.specs.Cuts.{Owns, Held, owner_of, condition_in, SoundConditions, CutBy};
+ghost use Rattle.cuts.specs.Cuts.{Walked, ReadAhead, Owns, Held, transfer_in, owner_of, condition_in, SoundConditions, CutBy};
 
-use bits::Cursor;
+use arrayvec::ArrayVec;
+use bits::{Cursor, Taken};
+use charged::Charged;
 use providers::run_end;
-use records::Groups;
-use rules::Transfer;
-use spans::{earlier, set_span};
+use records::{Groups, PointLists, Records};
+use rules::{Condition, Transfer};
+use spans::{MOST_SPANS, Span, add_span};
 
-// Where a point's transfers and conditions stand, and how many there are.
-#[derive(Drop)]
-pub struct Lists {
-    pub transfers: Cursor,
-    pub transfer_count: u64,
-    pub conditions: Cursor,
-    pub condition_count: u64,
+// A record of a list whose days ascend, as the file has it, and as the rules see it.
+trait Dated: Copy {
+    type Seen;
+
+    ghost seen: { Self → Self.Seen };
+
+    ghost here: { List ℕ → ℕ → Self.Seen };
+
+    ghost wide: { ℕ };
+
+    ghost day_of: { Self.Seen → ℕ };
+
+    // The record at a cursor, and the cursor after it.
+    fn read(file: &[u8], c: Cursor) -> Taken<Self>
+        requires { c.at < 2 ^ 32 }
+        ensures { (seen result.value ≡ here file.now c.at) × (result.next.at ≡ c.at + wide) };
+
+    fn day(&self) -> u64
+        ensures { result ≡ day_of (seen self.now) };
 }
 
-// The provider of the days before an entry, and the transfer ahead, which is read: so many are left with it. `next` is the cursor after it. Where
+impl Dated for Transfer {
+    type Seen = Transfer;
+
+    ghost seen = { λ t. t };
+
+    ghost here = { transfer_at };
+
+    ghost wide = { transfer_bits };
+
+    ghost day_of = { λ t. t.day };
+
+    fn read(file: &[u8], c: Cursor) -> Taken<Transfer> {
+        records::transfer(file, c)
+    }
+
+    fn day(&self) -> u64 {
+        self.day
+    }
+}
+
+impl Dated for Groups {
+    type Seen = Condition;
+
+    ghost seen = { condition_of };
+
+    ghost here = { condition_at };
+
+    ghost wide = { condition_bits };
+
+    ghost day_of = { λ c. c.day };
+
+    fn read(file: &[u8], c: Cursor) -> Taken<Groups> {
+        records::condition_groups(file, c)
+    }
+
+    fn day(&self) -> u64 {
+        Groups::day(*self)
+    }
+}
+
+// The record in force on the days before an entry, and the one ahead, which is read: so many are left with it. `next` is the cursor after it. Where
 // none is left, what stands behind the last was read, and is not asked for.
-#[derive(Drop)]
-struct Owning {
-    provider: u64,
+#[derive(Clone, Copy)]
+struct InForce<R> {
+    now: R,
     end: usize,
-    ahead: Transfer,
+    ahead: R,
     next: Cursor,
     left: u64,
 }
 
-// The condition of the days before an entry, and the one ahead, which is read: so many are left with it. `next` is the cursor after it. Where none is
-// left, what stands behind the last was read, and is not asked for.
-#[derive(Drop)]
-struct Holding {
-    groups: Groups,
-    end: usize,
-    ahead: Groups,
-    next: Cursor,
-    left: u64,
+// A record is in force until the day of the one ahead, which stands at a cursor and is read; so many are left with it.
+fn in_force<R: Dated>(file: &[u8], days: Charged, now: R, c: Cursor, left: u64) -> InForce<R>
+    requires { c.at < 2 ^ 32 }
+    ensures { ReadAhead (R.here file.now) R.wide R.day_of R.seen days.from.0 days.count.0 now c.at left result }
+{
+    let taken = R::read(file, c);
+    let ahead = taken.value;
+    let next = taken.next;
+    let end = run_end(left, days, ahead.day());
+    InForce {
+        now,
+        end,
+        ahead,
+        next,
+        left,
+    }
+}
+
+// The record in force at entry i, from those before it on.
+fn record_at<R: Dated>(file: &[u8], from: InForce<R>, days: Charged, i: usize) -> InForce<R>
+    requires { ((all : ℕ → R.Seen) × Walked (R.here file.now) R.wide R.day_of R.seen days.from.0 days.count.0 all i «from») × (i < days.count.0) }
+    ensures now { ((all : ℕ → R.Seen) → Walked (R.here file.now) R.wide R.day_of R.seen days.from.0 days.count.0 all i «from» → Walked (R.here file.now) R.wide R.day_of R.seen days.from.0 days.count.0 all i result) × (i < result.end) }
+    ensures fewer { (result.left ≤ «from».left) × («from».end ≤ i → result.left < «from».left) }
+{
+    let mut w = from;
+    // A `while`: it ends by the day of what is read, and mostly at once.
+    while w.end <= i {
+        w = in_force(file, days, w.ahead, w.next, w.left - 1);
+    }
+    w
 }
 
 // The first of so many transfers, whose day is not after the first day.
-fn first_owner(file: &[u8], c: Cursor, count: u64, start: u64, n: usize) -> Owning
-    requires { SoundTransfers file.now count c.at start }
-    ensures { Owns file.now start n (owner_of file.now count c.at start) 0 result × (result.left ≡ count - 1) }
+fn first_owner(file: &[u8], list: Records, days: Charged) -> InForce<Transfer>
+    requires { SoundTransfers file.now list.count list.first.at days.from.0 }
+    ensures { Owns file.now days.from.0 days.count.0 (transfer_in file.now list.count list.first.at days.from.0) 0 result × (result.left ≡ list.count - 1) }
 {
-    let first = records::transfer(file, c);
-    let second = records::transfer(file, first.next);
-    let ahead = second.value;
-    let next = second.next;
-    let left = count - 1;
-    let end = run_end(left, n, start, ahead.day);
-    Owning {
-        provider: first.value.provider,
-        end,
-        ahead,
-        next,
-        left,
-    }
-}
-
-// The transfer that is ahead.
-fn next_owner(file: &[u8], o: Owning, start: u64, n: usize) -> Owning
-    requires { (0 < o.left) × (o.next.at < 2 ^ 32) }
-    ensures { ((owner : ℕ → ℕ) (i : ℕ) → Owns file.now start n owner i o → o.end ≤ i → Owns file.now start n owner i result) × (result.left ≡ o.left - 1) }
-{
-    let taken = records::transfer(file, o.next);
-    let ahead = taken.value;
-    let next = taken.next;
-    let left = o.left - 1;
-    let end = run_end(left, n, start, ahead.day);
-    Owning {
-        provider: o.ahead.provider,
-        end,
-        ahead,
-        next,
-        left,
-    }
-}
-
-// The provider of entry i, from those before it on.
-fn owner_at(file: &[u8], from: Owning, start: u64, n: usize, i: usize) -> Owning
-    requires { ((owner : ℕ → ℕ) × Owns file.now start n owner i «from») × (i < n) }
-    ensures owns { ((owner : ℕ → ℕ) → Owns file.now start n owner i «from» → Owns file.now start n owner i result) × (i < result.end) }
-    ensures fewer { (result.left ≤ «from».left) × («from».end ≤ i → result.left < «from».left) }
-{
-    let mut o = from;
-    while o.end <= i {
-        let more = next_owner(file, o, start, n);
-        o = more;
-    }
-    o
+    let first = records::transfer(file, list.first);
+    in_force(file, days, first.value, first.next, list.count - 1)
 }
 
 // Before the first of so many conditions all are 0.
-fn no_condition(file: &[u8], c: Cursor, count: u64, start: u64, n: usize) -> Holding
-    requires { SoundConditions file.now count c.at }
-    ensures { Held file.now start n (condition_in file.now count c.at start) 0 result × (result.left ≡ count) }
+fn no_condition(file: &[u8], list: Records, days: Charged) -> InForce<Groups>
+    requires { SoundConditions file.now list.count list.first.at }
+    ensures { Held file.now days.from.0 days.count.0 (condition_in file.now list.count list.first.at days.from.0) 0 result × (result.left ≡ list.count) }
 {
-    let taken = records::condition_groups(file, c);
-    let ahead = taken.value;
-    let next = taken.next;
-    let end = run_end(count, n, start, records::condition_day(ahead));
-    let groups = Groups {
-        state: 0,
-        rateable: 0,
-    };
-    Holding {
-        groups,
-        end,
-        ahead,
-        next,
-        left: count,
-    }
+    in_force(file, days, Groups::default(), list.first, list.count)
 }
 
-// The condition that is ahead.
-fn next_condition(file: &[u8], h: Holding, start: u64, n: usize) -> Holding
-    requires { (0 < h.left) × (h.next.at < 2 ^ 32) }
-    ensures { ((on : ℕ → Condition) (i : ℕ) → Held file.now start n on i h → h.end ≤ i → Held file.now start n on i result) × (result.left ≡ h.left - 1) }
+// The spans of a point's charged days, with no sums. A point has at most 24 transfers and 48 conditions, and so at most 72 spans.
+pub fn cut_days(
+    file: &[u8],
+    lists: PointLists,
+    days: Charged,
+    spans: &mut ArrayVec<Span, MOST_SPANS>,
+)
+    requires sound_transfers { SoundTransfers file.now lists.transfers.count lists.transfers.first.at days.from.0 × (lists.transfers.count ≤ 24) }
+    requires sound_conditions { SoundConditions file.now lists.conditions.count lists.conditions.first.at × (lists.conditions.count ≤ 48) }
+    ensures { CutBy spans.new.items days.count.0 (owner_of file.now lists.transfers.count lists.transfers.first.at days.from.0) (condition_in file.now lists.conditions.count lists.conditions.first.at days.from.0) }
 {
-    let taken = records::condition_groups(file, h.next);
-    let groups = h.ahead;
-    let ahead = taken.value;
-    let next = taken.next;
-    let left = h.left - 1;
-    let end = run_end(left, n, start, records::condition_day(ahead));
-    Holding {
-        groups,
-        end,
-        ahead,
-        next,
-        left,
-    }
-}
-
-// The condition of entry i, from those before it on.
-fn condition_at(file: &[u8], from: Holding, start: u64, n: usize, i: usize) -> Holding
-    requires { ((on : ℕ → Condition) × Held file.now start n on i «from») × (i < n) }
-    ensures held { ((on : ℕ → Condition) → Held file.now start n on i «from» → Held file.now start n on i result) × (i < result.end) }
-    ensures fewer { (result.left ≤ «from».left) × («from».end ≤ i → result.left < «from».left) }
-{
-    let mut h = from;
-    while h.end <= i {
-        let more = next_condition(file, h, start, n);
-        h = more;
-    }
-    h
-}
-
-// The spans of n days from `start` on, with no sums: how many there are. A point has at most 24 transfers and 48 conditions, and so at most 72 spans.
-pub fn cut_days(file: &[u8], lists: Lists, start: u64, n: usize, spans: &mut [u64]) -> usize
-    requires sound_transfers { SoundTransfers file.now lists.transfer_count lists.transfers.at start × (lists.transfer_count ≤ 24) }
-    requires sound_conditions { SoundConditions file.now lists.condition_count lists.conditions.at × (lists.condition_count ≤ 48) }
-    requires spans_len { length spans.old ≡ 584 }
-    ensures { CutBy spans.new n result (owner_of file.now lists.transfer_count lists.transfers.at start) (condition_in file.now lists.condition_count lists.conditions.at start) }
-{
-    let mut own = first_owner(file, lists.transfers, lists.transfer_count, start, n);
-    let mut held = no_condition(file, lists.conditions, lists.condition_count, start, n);
-    let mut s: usize = 0;
+    let mut own = first_owner(file, lists.transfers, days);
+    let mut held = no_condition(file, lists.conditions, days);
+    spans.clear();
     let mut i: usize = 0;
-    while i < n {
-        let owner = owner_at(file, own, start, n, i);
-        own = owner;
-        let condition = condition_at(file, held, start, n, i);
-        held = condition;
-        let end = earlier(own.end, held.end);
-        let groups = held.groups;
-        set_span(spans, s, end, own.provider, groups);
-        s += 1;
+    // A `while`: it steps from cut to cut.
+    while (i as u64) < days.count.0 {
+        own = record_at(file, own, days, i);
+        held = record_at(file, held, days, i);
+        let end = own.end.min(held.end);
+        add_span(spans, end, own.now.provider, held.now);
         i = end;
     }
-    s
 }

@@ -9,6 +9,7 @@ use native.Mathlib.Omega.{arith}
 use native.Mathlib.Nat.{sub-zero}
 use lib.ListN.{length}
 use borrow.Author.Tests.{le-ltb}
+use Rattle.rules.specs.declared.Service.{Service}
 use Rattle.rules.specs.declared.Header.{Header}
 use Rattle.rules.specs.declared.Band.{Band}
 use Rattle.rules.specs.declared.PointHead.{PointHead}
@@ -29,10 +30,10 @@ end b = length b * 8
 pub data Kind : Type 0 where
   band_list : Kind
   transfer_list : Kind
-  condition_list : ℕ → Kind
+  condition_list : Service → Kind
   read_list : MeterHead → Kind
-  meter_list : ℕ → Kind
-  point_list : ℕ → Kind
+  meter_list : Service → Kind
+  point_list : Service → Kind
 
 -- a record of the list, before its own lists
 abbrev pub Head : Kind → Type 0
@@ -118,14 +119,14 @@ rest_number b (list kind n i s rest) at = list_number b kind (n - i) at s (rest_
 -- ---- numbers
 
 -- a record's number first, and then what comes after it
-pub first_stop : (n last : ℕ) → (n ≡ 0 → ⊥) → first_or (n ∷ []) last ≡ n
+pub first_stop : (n last : ℕ) → 0 < n → first_or (n ∷ []) last ≡ n
 unfolding first_or
-first_stop zero last h = absurd (h refl)
+first_stop zero last h = absurd (omega arith)
 first_stop (suc n) last h = refl
 
-pub first_go : (n last : ℕ) → n ≡ 0 → first_or (n ∷ []) last ≡ last
+pub first_go : (last : ℕ) → first_or (0 ∷ []) last ≡ last
 unfolding first_or
-first_go n last h = rw h
+first_go last = refl
 
 first_append : (xs ys : List ℕ) (last : ℕ) → first_or (xs ++ ys) last ≡ first_or xs (first_or ys last)
 unfolding first_or

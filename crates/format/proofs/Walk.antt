@@ -6,6 +6,8 @@ use mathlib.Core.List.{List, [], ◌∷◌}
 use native.Mathlib.Omega.{arith}
 use lib.ListN.{length}
 use borrow.Author.Tests.{lt-ltb}
+use Rattle.rules.specs.Numbered.{number_of}
+use Rattle.rules.specs.declared.Breach.{Breach}
 use Rattle.rules.specs.declared.Header.{Header}
 use Rattle.rules.specs.declared.PointHead.{PointHead}
 use Rattle.rules.specs.declared.MeterHead.{MeterHead}
@@ -13,6 +15,8 @@ use Rattle.rules.specs.File.{header_at, bands_at}
 use Rattle.rules.specs.Refusal.{header_rule, band_rule, point_rule, transfer_rule, condition_rule, meter_rule, read_rule, padding_number, first_or, file_refusal}
 use Rattle.rules.proofs.Fields.{field_lt}
 use Rattle.rules.proofs.Judged.{lacks_none}
+use Rattle.rules.proofs.Numbers.{positive}
+use Rattle.judges.specs.declared.ReadLimits.{ReadLimits}
 use Rattle.format.proofs.Rest.{Kind, band_list, transfer_list, condition_list, read_list, meter_list, point_list, Head, State, head_at, past, rule, Rest, list, padding, onward, opened, rest_number, end, first_stop, first_go, list_done, list_turn, file_turn, padding_turn}
 
 -- the refusal of the whole file is that of what is still to come, and the position is within the file
@@ -28,17 +32,17 @@ points_left h p lowest = list (point_list h.service) h.points p lowest padding
 abbrev pub bands_left : Header → ℕ → ℕ → Rest
 bands_left h i least = list band_list h.bands i least (points_left h 0 0)
 
-abbrev pub meters_left : Header → ℕ → ℕ → PointHead → ℕ → Rest
-meters_left h p lowest point m = list (meter_list h.service) point.meters m tt (points_left h (p + 1) lowest)
+abbrev pub meters_left : Header → ℕ → ℕ → ℕ → ℕ → Rest
+meters_left h p lowest meters m = list (meter_list h.service) meters m tt (points_left h (p + 1) lowest)
 
 abbrev pub conditions_left : Header → ℕ → ℕ → PointHead → ℕ → ℕ → Rest
-conditions_left h p lowest point k from = list (condition_list h.service) point.conditions k from (meters_left h p lowest point 0)
+conditions_left h p lowest point k from = list (condition_list h.service) point.conditions k from (meters_left h p lowest point.meters 0)
 
 abbrev pub transfers_left : Header → ℕ → ℕ → PointHead → ℕ → ℕ → ℕ → Rest
 transfers_left h p lowest point t from until = list transfer_list point.transfers t (from, until) (conditions_left h p lowest point 0 0)
 
-abbrev pub reads_left : Header → ℕ → ℕ → PointHead → ℕ → MeterHead → ℕ → ℕ → ℕ → ℕ → Rest
-reads_left h p lowest point m meter r from until before = list (read_list meter) meter.reads r (from, (until, before)) (meters_left h p lowest point (m + 1))
+abbrev pub reads_left : MeterHead → ℕ → ℕ → ReadLimits → Rest → Rest
+reads_left meter reads r limits meters = list (read_list meter) reads r (limits.least, (limits.latest, limits.before)) meters
 
 -- a record without a breach ends within the file
 fits : (b : List ℕ) (kind : Kind) (next : ℕ) (s : State kind) (v : Head kind) → rule b kind next s v ≡ 0 → next ≤ end b
@@ -68,19 +72,19 @@ small_key b (meter_list service) at = omega (arith, field_lt b at 16)
 small_key b (point_list service) at = field_lt b at 32
 
 -- a record of a list, read and judged
-module _ {b : List ℕ} {kind : Kind} {n i at : ℕ} {s : State kind} {rest : Rest} {v : Head kind} {next number : ℕ}
-    (a : At b at (list kind n i s rest)) (l : i < n) (f : (v ≡ head_at b kind at) × (next ≡ past kind at)) (j : number ≡ rule b kind next s v) where
-  judged : file_refusal b ≡ first_or (number ∷ []) (rest_number b (onward kind n i s v rest) next)
-  judged = rw (j, f.1, f.0) (a.whole ∙ list_turn b kind n i at s rest l)
+module _ {b : List ℕ} {kind : Kind} {n i at : ℕ} {s : State kind} {rest : Rest} {v : Head kind} {next : ℕ}
+    (a : At b at (list kind n i s rest)) (l : i < n) (f : (v ≡ head_at b kind at) × (next ≡ past kind at)) where
+  judged : {number : ℕ} → number ≡ rule b kind next s v → file_refusal b ≡ first_or (number ∷ []) (rest_number b (onward kind n i s v rest) next)
+  judged j = rw (j, f.1, f.0) (a.whole ∙ list_turn b kind n i at s rest l)
 
   pub has_room : key kind v < 2 ^ 32
   has_room = rw f.0 (small_key b kind at)
 
-  pub stops : (number ≡ 0 → ⊥) → number ≡ file_refusal b
-  stops h = sym (judged ∙ first_stop _ _ h)
+  pub stops : (breach : Breach) → number_of breach ≡ rule b kind next s v → number_of breach ≡ file_refusal b
+  stops breach j = sym (judged j ∙ first_stop _ _ (positive breach))
 
-  pub goes_on : number ≡ 0 → At b next (onward kind n i s v rest)
-  goes_on h = record { whole = judged ∙ first_go _ _ h; short = a.short; within = fits b kind next s v (sym j ∙ h) }
+  pub goes_on : 0 ≡ rule b kind next s v → At b next (onward kind n i s v rest)
+  goes_on j = record { whole = judged j ∙ first_go _; short = a.short; within = fits b kind next s v (sym j) }
 
 -- a list that is done
 pub ends : {b : List ℕ} {kind : Kind} {n i at : ℕ} {s : State kind} {rest : Rest} → At b at (list kind n i s rest) → n ≤ i → At b at rest
@@ -92,16 +96,16 @@ pub too_long : (b : List ℕ) → 65536 < length b → 1 ≡ file_refusal b
 unfolding file_refusal
 too_long b h = simp (lt-ltb _ _ h)
 
-module _ (b : List ℕ) {v : Header} {next number : ℕ} (short : length b ≤ 65536) (f : (v ≡ header_at b) × (next ≡ bands_at)) (j : number ≡ header_rule (end b) v) where
-  judged_header : file_refusal b ≡ first_or (number ∷ []) (rest_number b (opened v) next)
-  judged_header = rw (j, f.1, f.0) (file_turn b short)
+module _ (b : List ℕ) {v : Header} {next : ℕ} (short : length b ≤ 65536) (f : (v ≡ header_at b) × (next ≡ bands_at)) where
+  judged_header : {number : ℕ} → number ≡ header_rule (end b) v → file_refusal b ≡ first_or (number ∷ []) (rest_number b (opened v) next)
+  judged_header j = rw (j, f.1, f.0) (file_turn b short)
 
-  pub header_stops : (number ≡ 0 → ⊥) → number ≡ file_refusal b
-  header_stops h = sym (judged_header ∙ first_stop _ _ h)
+  pub header_stops : (breach : Breach) → number_of breach ≡ header_rule (end b) v → number_of breach ≡ file_refusal b
+  header_stops breach j = sym (judged_header j ∙ first_stop _ _ (positive breach))
 
-  pub opens : number ≡ 0 → At b next (opened v)
+  pub opens : 0 ≡ header_rule (end b) v → At b next (opened v)
   unfolding header_rule
-  opens h = let ends = lacks_none (end b) bands_at _ (sym j ∙ h) in record { whole = judged_header ∙ first_go _ _ h; short = short; within = omega (arith, ends, f.1) }
+  opens j = let ends = lacks_none (end b) bands_at _ (sym j) in record { whole = judged_header j ∙ first_go _; short = short; within = omega (arith, ends, f.1) }
 
 pub file_ends : {b : List ℕ} {at number : ℕ} → At b at padding → number ≡ padding_number b at → number ≡ file_refusal b
 file_ends {b} {at} a e = e ∙ sym (a.whole ∙ padding_turn b at)

@@ -1,10 +1,13 @@
 #![tactic(auto)]
 // The check of a settlement file: breaches 1 to 12.
-ghost use Rattle.std.specs.Prelude.{◌≡◌, ◌*◌, ◌≤◌, length};
+ghost use Rattle.std.specs.Prelude.{◌≡◌, ◌*◌, ◌≤◌, length, IfOk};
+ghost use Rattle.rules.specs.Numbered.{refusal_of};
 ghost use Rattle.rules.specs.Refusal.{padding_number, file_refusal};
 
 use bits::Cursor;
-use rules::Day;
+use judges::{Dial, ReadLimits};
+use records::{Checked, Records};
+use rules::{Breach, Day, Form};
 
 // The most bytes of a file.
 const MOST_BYTES: usize = 65536;
@@ -13,137 +16,120 @@ const MOST_BYTES: usize = 65536;
 const MOST_DAYS: u64 = 3660;
 
 // After the last record: less than a byte is left, and its bits are 0.
-fn padding_number(file: &[u8], c: Cursor) -> u64
+#[tactic(auto, unfolding(rules::specs::Refusal::padding_number))]
+fn padding(file: &[u8], c: Cursor) -> Result<(), Breach>
     requires { (length file.now ≤ 65536) × (c.at ≤ length file.now * 8) }
-    ensures { result ≡ padding_number file.now c.at }
+    ensures { refusal_of result ≡ padding_number file.now c.at }
 {
     let left = file.len() * 8 - c.at;
     if left >= 8 {
-        return 12;
+        return Err(Breach::Padding);
     }
     let padding = c.take(file, left as u32);
     if padding.value != 0 {
-        return 12;
+        return Err(Breach::Padding);
     }
-    0
+    Ok(())
 }
 
-// The number of a file's first breach in file order, and 0 for an accepted file. `least` and `lowest` are the least size and number allowed
-// next, `from` and `until` the days that the next record of a list may have, and `before` is the value of the read before. The outer loop turns
-// once: it is there to be left by its label.
-pub fn check(file: &[u8]) -> u64
-    ensures { result ≡ file_refusal file.now }
+// What a file is refused for: its first breach in file order; and else the file as checked. `least`, `lowest` and `earliest` are the least size,
+// number and day allowed next, `from` and `until` the days that the next transfer may have.
+pub fn check(file: &[u8]) -> Result<Checked, Breach>
+    ensures number { refusal_of result ≡ file_refusal file.now }
+    ensures checked { IfOk result (λ checked. checked.bytes.now ≡ file.now) }
 {
     if file.len() > MOST_BYTES {
-        return 1;
+        return Err(Breach::FileTooLong);
     }
     let end = file.len() * 8;
     let header = records::header(file);
     let head = header.value;
-    let number = judges::header_number(end, head);
-    if number != 0 {
-        return number;
-    }
+    judges::header(Form::of(head.version), end, header.next.at, head)?;
     let mut c = header.next;
-    'file: loop {
+    'file: {
         let mut least: u64 = 0;
-        let mut i: u64 = 0;
-        'bands: while i < head.bands {
+        'bands: for _ in 0..head.bands {
             let band = records::band(file, c);
-            let number = judges::band_number(end, band.next.at, least, band.value);
-            if number != 0 {
-                break 'file number;
+            if let Err(breach) = judges::band(end, band.next.at, least, band.value) {
+                break 'file Err(breach);
             }
             c = band.next;
             least = band.value.size + 1;
-            i += 1;
         }
         let mut lowest: u64 = 0;
-        let mut p: u64 = 0;
-        'points: while p < head.points {
+        'points: for _ in 0..head.points {
             let point = records::point(file, c);
-            let number = judges::point_number(end, point.next.at, lowest, point.value);
-            if number != 0 {
-                break 'file number;
+            if let Err(breach) = judges::point(end, point.next.at, lowest, point.value) {
+                break 'file Err(breach);
             }
             c = point.next;
             lowest = point.value.number + 1;
             let mut from: u64 = 0;
             let mut until = point.value.connected;
-            let mut t: u64 = 0;
-            'transfers: while t < point.value.transfers {
+            'transfers: for _ in 0..point.value.transfers {
                 let transfer = records::transfer(file, c);
-                let number = judges::transfer_number(
+                if let Err(breach) = judges::transfer(
                     end,
                     transfer.next.at,
                     from,
                     until,
                     transfer.value,
-                );
-                if number != 0 {
-                    break 'file number;
+                ) {
+                    break 'file Err(breach);
                 }
                 c = transfer.next;
                 from = transfer.value.day + 1;
                 until = Day::NONE.0;
-                t += 1;
             }
-            from = 0;
-            let mut k: u64 = 0;
-            'conditions: while k < point.value.conditions {
+            let mut earliest: u64 = 0;
+            'conditions: for _ in 0..point.value.conditions {
                 let condition = records::condition(file, c);
-                let number = judges::condition_number(
+                if let Err(breach) = judges::condition(
                     end,
                     condition.next.at,
                     head.service,
-                    from,
+                    earliest,
                     condition.value,
-                );
-                if number != 0 {
-                    break 'file number;
+                ) {
+                    break 'file Err(breach);
                 }
                 c = condition.next;
-                from = condition.value.day + 1;
-                k += 1;
+                earliest = condition.value.day + 1;
             }
-            let mut m: u64 = 0;
-            'meters: while m < point.value.meters {
+            'meters: for _ in 0..point.value.meters {
                 let meter = records::meter(file, c);
-                let number = judges::meter_number(end, meter.next.at, head.service, meter.value);
-                if number != 0 {
-                    break 'file number;
+                if let Err(breach) = judges::meter(end, meter.next.at, head.service, meter.value) {
+                    break 'file Err(breach);
                 }
                 c = meter.next;
-                let dial = judges::dial_values(meter.value.digits);
-                from = 0;
-                until = Day::NONE.0;
-                let mut before: u64 = 0;
-                let mut r: u64 = 0;
-                'reads: while r < meter.value.reads {
+                let dial = Dial::new(meter.value);
+                let mut limits = ReadLimits {
+                    least: 0,
+                    latest: Day::NONE.0,
+                    before: 0,
+                };
+                'reads: for _ in 0..meter.value.reads {
                     let read = records::read(file, c);
-                    let number = judges::read_number(
-                        end,
-                        read.next.at,
-                        meter.value,
-                        dial,
-                        from,
-                        until,
-                        before,
-                        read.value,
-                    );
-                    if number != 0 {
-                        break 'file number;
+                    if let Err(breach) = judges::read(end, read.next.at, dial, limits, read.value) {
+                        break 'file Err(breach);
                     }
                     c = read.next;
-                    from = read.value.day + 1;
-                    until = read.value.day + MOST_DAYS;
-                    before = read.value.value;
-                    r += 1;
+                    limits = ReadLimits {
+                        least: read.value.day + 1,
+                        latest: read.value.day + MOST_DAYS,
+                        before: read.value.value,
+                    };
                 }
-                m += 1;
             }
-            p += 1;
         }
-        break 'file padding_number(file, c);
+        padding(file, c)?;
+        Ok(Checked {
+            bytes: file,
+            head,
+            bands: Records {
+                first: header.next,
+                count: head.bands,
+            },
+        })
     }
 }

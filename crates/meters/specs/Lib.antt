@@ -1,1 +1,2 @@
+pub mod Spreadable
 pub mod Meters

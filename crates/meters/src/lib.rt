@@ -1,34 +1,31 @@
 #![tactic(auto)]
 // The meters of a supply point, added to its spans: the litres of their advances, and their bands' figures on their meter days. Each record of the
 // point's meters is read once.
-ghost use Rattle.std.specs.Prelude.{◌≡◌, ◌+◌, ◌-◌, ◌*◌, ◌≤◌, ◌<◌, ◌^◌, min, []};
-ghost use Rattle.rules.specs.File.{reads, bands as bands_from, meter_at, meters as meters_from, after_reads, after_meter, after_meters};
-ghost use Rattle.rules.specs.Litres.{dial_values, advance, carried_before, meter_litres};
+ghost use Rattle.std.specs.Prelude.{◌≡◌, ◌↔◌, IsTrue, ◌+◌, ◌-◌, ◌*◌, ◌≤◌, ◌<◌, ◌^◌, length, min, []};
+ghost use Rattle.rules.specs.File.{reads, meter_at, meters as meters_from, after_reads, after_meter, after_meters};
+ghost use Rattle.rules.specs.Sums.{only};
+ghost use Rattle.rules.specs.Litres.{advance, carried_before, meter_litres};
 ghost use Rattle.rules.specs.Good.{GoodMeterHead, GoodRead, GoodAdvance, GoodMeter};
-ghost use Rattle.bands.specs.Bands.{SizesOf};
+ghost use Rattle.bands.specs.Bands.{bands_in};
 ghost use Rattle.spans.specs.Spans.{end_in, Cut, Reached, litres_of, figure_of, during, Grown, Room};
-ghost use Rattle.meters.specs.Meters.{Says, Spreadable, spread_of, meter_of, AdvanceOf, Weights, Sums, meter_figure, RoomWith, GrownWith, GoodBands, GoodMeters, SumsClear, MetersIn};
+ghost use Rattle.meters.specs.Meters.{spread_of, meter_of, AdvanceOf, Weights, meter_figure, RoomWith, GrownWith, GoodBands, GoodMeters, SumsClear, MetersIn};
 
-use bands::band_for;
-use bits::Cursor;
-use charged::entry;
-use judges::dial_values;
-use rules::{Band, MeterHead, Read};
-use spans::{Figures, SpanDays, add_figures, add_litres, earlier, span_end, span_with};
+mod advance;
 
-// So many litres from a day on, before another, of which `parts` ten-thousandths count: share × return.
-#[derive(Drop)]
-pub struct Advance {
-    pub litres: u64,
-    pub parts: u64,
-    pub first: u64,
-    pub last: u64,
-}
+use advance::Advance;
+use bands::Bands;
+use bits::{Cursor, Taken};
+use charged::Charged;
+use judges::Dial;
+use records::Records;
+use rules::{Band, MeterHead, Read, only};
+use spans::{Figures, Span, add_figures, add_litres, span_with};
 
 // What the days of an advance before a day carry. Before the first they carry nothing and before the last day's end all of it, where nothing is
 // divided by the number of days.
+#[tactic(auto, unfolding(rules::specs::Litres::carried_before))]
 fn carried_before(a: Advance, day: u64) -> u64
-    requires { Spreadable a.litres a.parts a.first a.last × (day ≤ a.last) }
+    requires { day ≤ a.last }
     ensures { result ≡ carried_before a.litres a.parts (a.last - a.first) (day - a.first) }
 {
     if day <= a.first {
@@ -43,24 +40,26 @@ fn carried_before(a: Advance, day: u64) -> u64
 
 // An advance is added to the spans that its days meet: each has what the days before its end carry, less what those before its beginning carry, so
 // that no litre is lost. It begins at a span that does not begin after it, and hands back one that does not begin after its end.
-fn add_advance(spans: &mut [u64], days: SpanDays, from: usize, a: Advance) -> usize
-    requires cut { Cut spans.old days.count days.spans × Spreadable a.litres a.parts a.first a.last }
-    requires reached_2 { Reached spans.old days.spans «from» (min (a.first - days.start) days.count) }
-    requires room { Room spans.old days.spans (λ q i. litres_of (spread_of a (days.start + i)) q) }
-    ensures added { Grown spans.old spans.new days.spans (λ q i. litres_of (spread_of a (days.start + i)) q) }
-    ensures reached { Reached spans.old days.spans result (min (a.last - days.start) days.count) }
+#[tactic(auto, unfolding(spans::specs::Spans::span_in))]
+fn add_advance(spans: &mut [Span], days: Charged, from: usize, a: Advance) -> usize
+    requires cut { Cut spans.old days.count.0 (length spans.old) }
+    requires reached_2 { Reached spans.old (length spans.old) «from» (min (a.first - days.from.0) days.count.0) }
+    requires room { Room spans.old (length spans.old) (λ q i. litres_of (spread_of a (days.from.0 + i)) q) }
+    ensures added { Grown spans.old spans.new (length spans.old) (λ q i. litres_of (spread_of a (days.from.0 + i)) q) }
+    ensures reached { Reached spans.old (length spans.old) result (min (a.last - days.from.0) days.count.0) }
 {
-    let to = entry(days.count, days.start, a.last);
-    let mut i = entry(days.count, days.start, a.first);
+    let to = days.entry(a.last);
+    let mut i = days.entry(a.first);
     let mut s = from;
     if to <= i {
         return s;
     }
-    let mut before = carried_before(a, days.start + i as u64);
+    let mut before = carried_before(a, days.from.0 + i as u64);
+    // A `while`: it steps from cut to cut.
     while i < to {
-        s = span_with(spans, days, s, i);
-        let stop = earlier(span_end(spans, s), to);
-        let up = carried_before(a, days.start + stop as u64);
+        s = span_with(spans, s, i);
+        let stop = spans[s].end.min(to);
+        let up = carried_before(a, days.from.0 + stop as u64);
         add_litres(spans, s, up - before);
         before = up;
         i = stop;
@@ -69,29 +68,21 @@ fn add_advance(spans: &mut [u64], days: SpanDays, from: usize, a: Advance) -> us
 }
 
 // Whether the span at a place holds all days of an advance that it does not begin after.
-fn holds_all(spans: &[u64], days: SpanDays, s: usize, a: Advance) -> bool
-    requires { Cut spans.now days.count days.spans × (a.first < a.last) }
-    ensures { Says result ((s < days.spans) × (days.start ≤ a.first) × (a.last - days.start ≤ end_in spans.now s)) }
+#[tactic(auto, unfolding(spans::specs::Spans::span_in))]
+fn holds_all(spans: &[Span], days: Charged, s: usize, a: Advance) -> bool
+    requires { Cut spans.now days.count.0 (length spans.now) × (a.first < a.last) }
+    ensures { IsTrue result ↔ ((s < length spans.now) × (days.from.0 ≤ a.first) × (a.last - days.from.0 ≤ end_in spans.now s)) }
 {
-    if days.spans <= s {
-        return false;
-    }
-    if a.first < days.start {
-        return false;
-    }
-    if (span_end(spans, s) as u64) < a.last - days.start {
-        return false;
-    }
-    true
+    s < spans.len() && days.from.0 <= a.first && a.last - days.from.0 <= spans[s].end as u64
 }
 
 // An advance that one span holds, as most are held, is added to it whole, and none of its days is asked for. Any other is cut at the spans' ends.
-fn spread_advance(spans: &mut [u64], days: SpanDays, from: usize, a: Advance) -> usize
-    requires cut { Cut spans.old days.count days.spans × Spreadable a.litres a.parts a.first a.last }
-    requires reached_2 { Reached spans.old days.spans «from» (min (a.first - days.start) days.count) }
-    requires room { Room spans.old days.spans (λ q i. litres_of (spread_of a (days.start + i)) q) }
-    ensures added { Grown spans.old spans.new days.spans (λ q i. litres_of (spread_of a (days.start + i)) q) }
-    ensures reached { Reached spans.old days.spans result (min (a.last - days.start) days.count) }
+fn spread_advance(spans: &mut [Span], days: Charged, from: usize, a: Advance) -> usize
+    requires cut { Cut spans.old days.count.0 (length spans.old) }
+    requires reached_2 { Reached spans.old (length spans.old) «from» (min (a.first - days.from.0) days.count.0) }
+    requires room { Room spans.old (length spans.old) (λ q i. litres_of (spread_of a (days.from.0 + i)) q) }
+    ensures added { Grown spans.old spans.new (length spans.old) (λ q i. litres_of (spread_of a (days.from.0 + i)) q) }
+    ensures reached { Reached spans.old (length spans.old) result (min (a.last - days.from.0) days.count.0) }
 {
     if holds_all(spans, days, from, a) {
         add_litres(spans, from, a.litres * a.parts / 10000);
@@ -100,35 +91,35 @@ fn spread_advance(spans: &mut [u64], days: SpanDays, from: usize, a: Advance) ->
     add_advance(spans, days, from, a)
 }
 
-// What the dial counts between two successive reads, in cubic metres; it has so many values.
-fn counts_between(head: MeterHead, dial: u64, earlier: Read, later: Read) -> u64
-    requires { GoodMeterHead head × GoodRead head earlier × GoodAdvance head earlier later × (dial ≡ dial_values head.digits) }
-    ensures { (result * 1000 ≡ advance (meter_of head []) earlier later) × (result * 1000 ≤ 100000000000) }
+// What the dial counts between two successive reads, in cubic metres: it may have gone past its last value.
+fn counts_between(dial: Dial, earlier: Read, later: Read) -> u64
+    requires { GoodMeterHead dial.meter × GoodRead dial.meter earlier × GoodAdvance dial.meter earlier later }
+    ensures { (result * 1000 ≡ advance (meter_of dial.meter []) earlier later) × (result * 1000 ≤ 100000000000) }
 {
-    later.value + later.rollover * dial - earlier.value
+    later.value + only(later.rollover, dial.values) - earlier.value
 }
 
-// The advance between two successive reads of a meter, whose dial has so many values.
-fn advance_of(head: MeterHead, dial: u64, earlier: Read, later: Read) -> Advance
-    requires { GoodMeterHead head × GoodRead head earlier × GoodAdvance head earlier later × (dial ≡ dial_values head.digits) }
-    ensures { AdvanceOf head earlier later result }
+// The advance between two successive reads of a meter.
+fn advance_of(dial: Dial, earlier: Read, later: Read) -> Advance
+    requires { GoodMeterHead dial.meter × GoodRead dial.meter earlier × GoodAdvance dial.meter earlier later }
+    ensures { AdvanceOf dial.meter earlier later result }
 {
-    let counts = counts_between(head, dial, earlier, later);
+    let counts = counts_between(dial, earlier, later);
     Advance {
         litres: counts * 1000,
-        parts: head.share * head.returned,
+        parts: dial.meter.share * dial.meter.returned,
         first: earlier.day,
         last: later.day,
     }
 }
 
 // A meter's litres, from its reads. Their days ascend, so that each advance begins at the span where the one before it ended.
-fn add_reads(file: &[u8], c: Cursor, head: MeterHead, spans: &mut [u64], days: SpanDays) -> Cursor
+fn add_reads(file: &[u8], c: Cursor, head: MeterHead, spans: &mut [Span], days: Charged) -> Cursor
     requires at_bound { after_reads c.at (reads file.now head.reads c.at) < 2 ^ 32 }
-    requires good_meter { GoodMeter (meter_of head (reads file.now head.reads c.at)) × Cut spans.old days.count days.spans }
-    requires room { Room spans.old days.spans (λ q i. litres_of (meter_litres (meter_of head (reads file.now head.reads c.at)) (days.start + i)) q) }
+    requires good_meter { GoodMeter (meter_of head (reads file.now head.reads c.at)) × Cut spans.old days.count.0 (length spans.old) }
+    requires room { Room spans.old (length spans.old) (λ q i. litres_of (meter_litres (meter_of head (reads file.now head.reads c.at)) (days.from.0 + i)) q) }
     ensures ends { result.at ≡ after_reads c.at (reads file.now head.reads c.at) }
-    ensures grown { Grown spans.old spans.new days.spans (λ q i. litres_of (meter_litres (meter_of head (reads file.now head.reads c.at)) (days.start + i)) q) }
+    ensures grown { Grown spans.old spans.new (length spans.old) (λ q i. litres_of (meter_litres (meter_of head (reads file.now head.reads c.at)) (days.from.0 + i)) q) }
 {
     if head.reads == 0 {
         return c;
@@ -137,16 +128,14 @@ fn add_reads(file: &[u8], c: Cursor, head: MeterHead, spans: &mut [u64], days: S
     let mut earlier = first.value;
     let mut next = first.next;
     let mut s: usize = 0;
-    let mut left = head.reads - 1;
-    let dial = dial_values(head.digits);
-    while 0 < left {
+    let dial = Dial::new(head);
+    for _ in 1..head.reads {
         let taken = records::read(file, next);
         let later = taken.value;
-        let advance = advance_of(head, dial, earlier, later);
+        let advance = advance_of(dial, earlier, later);
         s = spread_advance(spans, days, s, advance);
         earlier = later;
         next = taken.next;
-        left -= 1;
     }
     next
 }
@@ -156,73 +145,39 @@ fn figures_of(band: Band, share: u64) -> Figures
     requires { (band.annual * share < 2 ^ 64) × (band.allowance * share < 2 ^ 64) × (band.threshold * share < 2 ^ 64) }
     ensures { Weights band share result }
 {
-    Figures {
-        annual: band.annual * share,
-        allowance: band.allowance * share,
-        threshold: band.threshold * share,
-    }
-}
-
-// The sums of two.
-fn both(a: Figures, b: Figures) -> Figures
-    requires { (a.annual + b.annual < 2 ^ 64) × (a.allowance + b.allowance < 2 ^ 64) × (a.threshold + b.threshold < 2 ^ 64) }
-    ensures { Sums a b result }
-{
-    Figures {
-        annual: a.annual + b.annual,
-        allowance: a.allowance + b.allowance,
-        threshold: a.threshold + b.threshold,
-    }
+    let each = Figures {
+        annual: band.annual,
+        allowance: band.allowance,
+        threshold: band.threshold,
+    };
+    each * share
 }
 
 // Whether there is a day, and entries from one on, before another, are all there are.
-fn on_all_days(days: SpanDays, from: usize, to: usize) -> bool
-    ensures { Says result ((«from» ≡ 0) × (to ≡ days.count) × (0 < to)) }
+fn on_all_days(days: Charged, from: usize, to: usize) -> bool
+    ensures { IsTrue result ↔ ((«from» ≡ 0) × (to ≡ days.count.0) × (0 < to)) }
 {
-    if from != 0 {
-        return false;
-    }
-    if to != days.count {
-        return false;
-    }
-    if to == 0 {
-        return false;
-    }
-    true
-}
-
-// Where a tariff's bands begin, and how many there are.
-#[derive(Drop)]
-pub struct Bands {
-    pub first: Cursor,
-    pub count: u64,
-}
-
-// The cursor after some meters, and what every day has of them besides what stands in the spans' sums.
-#[derive(Drop)]
-pub struct MetersAdded {
-    pub next: Cursor,
-    pub every: Figures,
+    from == 0 && to as u64 == days.count.0 && 0 < to
 }
 
 // The figures of a meter that is there on all days, as most are, are only added to `every`, what every day has besides what stands in the sums.
 fn add_during(
-    spans: &mut [u64],
-    days: SpanDays,
+    spans: &mut [Span],
+    days: Charged,
     head: MeterHead,
     each: Figures,
     every: Figures,
 ) -> Figures
-    requires cut { Cut spans.old days.count days.spans }
-    requires room_with { RoomWith every spans.old days.spans (λ q i. during head.installed head.removed (λ d. figure_of each q) (days.start + i)) }
-    ensures { GrownWith every result spans.old spans.new days.spans (λ q i. during head.installed head.removed (λ d. figure_of each q) (days.start + i)) }
+    requires cut { Cut spans.old days.count.0 (length spans.old) }
+    requires room_with { RoomWith every spans.old (length spans.old) (λ q i. during head.installed head.removed (λ d. figure_of each q) (days.from.0 + i)) }
+    ensures { GrownWith every result spans.old spans.new (length spans.old) (λ q i. during head.installed head.removed (λ d. figure_of each q) (days.from.0 + i)) }
 {
-    let from = entry(days.count, days.start, head.installed);
-    let to = entry(days.count, days.start, head.removed);
+    let from = days.entry(head.installed);
+    let to = days.entry(head.removed);
     if on_all_days(days, from, to) {
-        return both(every, each);
+        return every + each;
     }
-    add_figures(spans, days, from, to, each);
+    add_figures(spans, from, to, each);
     every
 }
 
@@ -230,57 +185,46 @@ fn add_during(
 fn add_meter<'a>(
     file: &'a [u8],
     c: Cursor,
-    bands: Bands,
-    sizes: &'a [u64],
-    spans: &mut [u64],
-    days: SpanDays,
+    bands: &'a Bands,
+    spans: &mut [Span],
+    days: Charged,
     every: Figures,
-) -> MetersAdded
+) -> Taken<Figures>
     requires at_bound { after_meter c.at (meter_at file.now c.at) < 2 ^ 32 }
-    requires good_bands { GoodBands file.now bands.count bands.first.at × SizesOf file.now bands.count bands.first.at sizes.now }
-    requires good_meter { GoodMeter (meter_at file.now c.at) × Cut spans.old days.count days.spans }
-    requires room_with { RoomWith every spans.old days.spans (λ q i. meter_figure (bands_from file.now bands.count bands.first.at) q (meter_at file.now c.at) (days.start + i)) }
+    requires good_bands { GoodBands file.now bands.now }
+    requires good_meter { GoodMeter (meter_at file.now c.at) × Cut spans.old days.count.0 (length spans.old) }
+    requires room_with { RoomWith every spans.old (length spans.old) (λ q i. meter_figure (bands_in file.now bands.now) q (meter_at file.now c.at) (days.from.0 + i)) }
     ensures ends { result.next.at ≡ after_meter c.at (meter_at file.now c.at) }
-    ensures added { GrownWith every result.every spans.old spans.new days.spans (λ q i. meter_figure (bands_from file.now bands.count bands.first.at) q (meter_at file.now c.at) (days.start + i)) }
+    ensures added { GrownWith every result.value spans.old spans.new (length spans.old) (λ q i. meter_figure (bands_in file.now bands.now) q (meter_at file.now c.at) (days.from.0 + i)) }
 {
     let taken = records::meter(file, c);
     let head = taken.value;
-    let band = band_for(file, bands.first, bands.count, sizes, head.size);
+    let band = bands.serving(file, head.size);
     let each = figures_of(band, head.share);
     let next = add_reads(file, taken.next, head, spans, days);
     let more = add_during(spans, days, head, each, every);
-    MetersAdded { next, every: more }
+    Taken { value: more, next }
 }
 
-// What the days of each span have of the meters, where the sums were 0. Of the bands only the sizes are lent: each meter's own band is read from
-// the file. What the meters that are there on all days have together is handed back, and is not added to the spans.
+// What the days of each span have of the meters, where the sums were 0. What the meters that are there on all days have together is handed back, and is not added to the spans.
 pub fn add_meters<'a>(
     file: &'a [u8],
-    c: Cursor,
-    count: u64,
-    bands: Bands,
-    sizes: &'a [u64],
-    spans: &mut [u64],
-    days: SpanDays,
-) -> MetersAdded
-    requires good_meters { GoodMeters file.now count c.at × GoodBands file.now bands.count bands.first.at }
-    requires sizes_of { SizesOf file.now bands.count bands.first.at sizes.now }
-    requires cut { Cut spans.old days.count days.spans × SumsClear spans.old days.spans × (days.count ≤ 366) }
-    ensures ends { result.next.at ≡ after_meters c.at (meters_from file.now count c.at) }
-    ensures sums { MetersIn result.every spans.old spans.new days.spans days.start (bands_from file.now bands.count bands.first.at) (meters_from file.now count c.at) }
+    list: Records,
+    bands: &'a Bands,
+    spans: &mut [Span],
+    days: Charged,
+) -> Taken<Figures>
+    requires good_meters { GoodMeters file.now list.count list.first.at × GoodBands file.now bands.now }
+    requires cut { Cut spans.old days.count.0 (length spans.old) × SumsClear spans.old (length spans.old) × (days.count.0 ≤ 366) }
+    ensures ends { result.next.at ≡ after_meters list.first.at (meters_from file.now list.count list.first.at) }
+    ensures sums { MetersIn result.value spans.old spans.new (length spans.old) days.from.0 (bands_in file.now bands.now) (meters_from file.now list.count list.first.at) }
 {
-    let mut every = Figures {
-        annual: 0,
-        allowance: 0,
-        threshold: 0,
-    };
-    let mut next = c;
-    let mut left = count;
-    while 0 < left {
-        let added = add_meter(file, next, bands, sizes, spans, days, every);
-        every = added.every;
+    let mut every = Figures::default();
+    let mut next = list.first;
+    for _ in 0..list.count {
+        let added = add_meter(file, next, bands, spans, days, every);
+        every = added.value;
         next = added.next;
-        left -= 1;
     }
-    MetersAdded { next, every }
+    Taken { value: every, next }
 }

@@ -1,5 +1,4 @@
-pub mod Shift
-pub mod Halving
+pub mod Down
 pub mod Insert
 pub mod Runs
 pub mod Days

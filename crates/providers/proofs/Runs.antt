@@ -1,5 +1,6 @@
--- The loop over a point's transfers: each has the days from its own entry up to the next one's, the last up to the end. Assumes nothing.
-use Prim.Native.Nat.{ℕ, suc, ◌+◌, ◌-◌, ◌^◌, ◌≤◌, ◌<◌, min, zero-le}
+-- Dated records that are gone through in the order of the days, transfers and conditions alike: each has the days from its own entry up to the next
+-- one's, the last up to the end. Assumes nothing.
+use Prim.Native.Nat.{ℕ, zero, suc, ◌+◌, ◌-◌, ◌^◌, ◌≤◌, ◌<◌, min, zero-le}
 use mathlib.Core.Path.{◌≡◌, refl, sym, ap, ◌∙◌, subst}
 use mathlib.Core.Bool.{cond}
 use mathlib.Core.Logic.{⊎_elim}
@@ -11,20 +12,16 @@ use lib.Dec.{eqb}
 use Rattle.rules.specs.declared.Transfer.{Transfer}
 use Rattle.rules.specs.Lists.{Ascending, latest}
 use Rattle.rules.specs.Settlement.{provider_on}
-use Rattle.rules.specs.File.{Point, records, transfer_at, after_transfer, transfers, after_transfers}
+use Rattle.rules.specs.File.{Point, records, transfer_at, after_transfer, transfers}
 use Rattle.rules.specs.Good.{FirstBy}
-use Rattle.rules.proofs.Lists.{ascending_lower, latest_none, latest_here, latest_ahead}
+use Rattle.rules.proofs.Lists.{ascending_lower, latest_here, latest_ahead}
 use Rattle.records.proofs.Positions.{forward}
 use Rattle.records.proofs.Ahead.{read_one, read_past}
 use Rattle.charged.specs.Charged.{first_entry}
-use Rattle.providers.specs.Runs.{SoundTransfers}
+use Rattle.providers.specs.Runs.{SoundTransfers, Walk, Reading}
 
--- who has the day of entry i, from `start` on
-abbrev pub owner_by : List Transfer → ℕ → ℕ → ℕ
-owner_by ts start i = latest (λ t. t.day) (λ t. t.provider) 0 ts (start + i)
-
--- DATED RECORDS: the entry of the first of them is one of n days, or n
-pub first_within : {A : Type 0} (day : A → ℕ) (n start : ℕ) (xs : List A) → first_entry day n start xs ≤ n
+-- the entry of the first of some dated records is one of n days, or n
+first_within : {A : Type 0} (day : A → ℕ) (n start : ℕ) (xs : List A) → first_entry day n start xs ≤ n
 unfolding first_entry
 first_within day n start [] = omega arith
 first_within day n start (x ∷ xs) = omega arith
@@ -46,35 +43,87 @@ module _ {A : Type 0} (here : ℕ → A) (next : ℕ → A → ℕ) (day : A →
       (λ h. k ∙ (ap (λ b. cond b n (min (day x - start) n)) (ne_eqb left 0 (λ z. absurd (omega arith))) ∙ one_left left at h e))
       (eq-zero-or-pos left)
 
--- A LIST of transfers, one on or before the first day
-pub first_zero : (n start : ℕ) (ts : List Transfer) → FirstBy start ts → first_entry (λ t. t.day) n start ts ≡ 0
-unfolding first_entry
-first_zero n start [] h = absurd h
-first_zero n start (t ∷ ts) h = omega arith
-
-module _ (n start : ℕ) (t : Transfer) where
-  first_later : (ts : List Transfer) → Ascending 0 (map (λ t. t.day) (t ∷ ts)) → first_entry (λ t. t.day) n start (t ∷ ts) ≤ first_entry (λ t. t.day) n start ts
+module _ {A B : Type 0} (day : A → ℕ) (value : A → B) (start n : ℕ) where
+  -- a later record's entry is no earlier
+  walk_forward : (x : A) (xs : List A) → Ascending 0 (map day (x ∷ xs)) → first_entry day n start (x ∷ xs) ≤ first_entry day n start xs
   unfolding first_entry
-  first_later [] up = omega arith
-  first_later (u ∷ ts) up = omega (arith, up.1.0)
+  walk_forward x [] up = omega arith
+  walk_forward x (y ∷ xs) up = omega (arith, up.1.0)
 
-  owner_here : (ts : List Transfer) → Ascending 0 (map (λ t. t.day) (t ∷ ts)) → (i : ℕ) → first_entry (λ t. t.day) n start (t ∷ ts) ≤ i → i < first_entry (λ t. t.day) n start ts →
-      owner_by (t ∷ ts) start i ≡ t.provider
-  unfolding first_entry
-  owner_here [] up i a b = latest_here _ _ _ 0 t [] (omega arith) ∙ latest_none _ _ _ t.provider [] tt
-  owner_here (u ∷ ts) up i a b = latest_here _ _ _ 0 t (u ∷ ts) (omega arith) ∙ latest_ahead _ _ _ t.provider (suc t.day) u ts up.1 (omega arith)
+  module _ {all : ℕ → B} {i : ℕ} {now : B} where
+    -- the days before the next record's entry have what is in force
+    walk_under : {end : ℕ} (ahead : List A) → Walk day value start n all i now ahead end → (j : ℕ) → i ≤ j → j < end → all j ≡ now
+    unfolding latest first_entry
+    walk_under [] w j a b = w.same j a (omega (arith, w.ends))
+    walk_under (x ∷ xs) w j a b = w.same j a (omega (arith, w.ends)) ∙ latest_ahead day (start + j) value now 0 x xs w.ascend (omega (arith, w.ends))
 
-  owner_later : (ts : List Transfer) → Ascending 0 (map (λ t. t.day) (t ∷ ts)) → (i : ℕ) → first_entry (λ t. t.day) n start ts ≤ i → i < n →
-      owner_by (t ∷ ts) start i ≡ owner_by ts start i
-  unfolding first_entry
-  owner_later [] up i a b = absurd (omega arith)
-  owner_later (u ∷ ts) up i a b = latest_here _ _ _ 0 t (u ∷ ts) (omega (arith, up.1.0)) ∙ (latest_here _ _ _ t.provider u ts (omega arith) ∙ sym (latest_here _ _ _ 0 u ts (omega arith)))
+    -- which comes into force
+    walk_next : {end : ℕ} (x : A) (xs : List A) → Walk day value start n all i now (x ∷ xs) end → end ≤ i → {end' : ℕ} → end' ≡ first_entry day n start xs → Walk day value start n all i (value x) xs end'
+    unfolding first_entry
+    walk_next x xs w h e =
+        record {
+          ascend = ascending_lower (map day xs) zero-le w.ascend.1;
+          same = λ j a b. w.same j a b ∙ latest_here day (start + j) value now x xs (omega (arith, w.ends));
+          ends = e;
+        }
 
 -- the days of entries `from` .. `to` - 1 have one owner
 pub record Run (owner : ℕ → ℕ) (n from to p : ℕ) : Type 0 where
   pub forwards : from ≤ to
   pub within : to ≤ n
   pub same : (i : ℕ) → from ≤ i → i < to → owner i ≡ p
+
+-- RECORDS OF A FILE
+module _ {A B : Type 0} {here : ℕ → A} {next : ℕ → A → ℕ} {day : A → ℕ} {value : A → B} {start n : ℕ} where
+  module _ {all : ℕ → B} {i : ℕ} {now : B} {x : A} {past left end : ℕ} (u : Reading here next day value start n all i now x past left end) where
+    pub reading_within : end ≤ n
+    reading_within = omega (arith, u.walk.ends, first_within day n start (records here next left u.at))
+
+    pub reading_under : (j : ℕ) → i ≤ j → j < end → all j ≡ now
+    reading_under = walk_under day value start n (records here next left u.at) u.walk
+
+    pub reading_later : {k : ℕ} → i ≤ k → Reading here next day value start n all k now x past left end
+    reading_later h =
+        record {
+          at = u.at;
+          read = u.read;
+          within = u.within;
+          walk = record { ascend = u.walk.ascend; same = λ j a b. u.walk.same j (omega arith) b; ends = u.walk.ends };
+        }
+
+    -- where none is left, no day is
+    pub reading_end : left ≤ 0 → end ≡ n
+    reading_end h = u.walk.ends ∙ sym (none_left here next day start n left u.at (omega arith))
+
+    pub reading_small : ((at : ℕ) (x : A) → at ≤ next at x) → 0 < left → past < 2 ^ 32
+    reading_small step h = omega (arith, u.within, read_past here next left u.at h u.read, forward step past (records here next (left - 1) past))
+
+    -- the record that is read comes into force, and the one after it is read
+    module _ (h : 0 < left) {y : A} {later d end' : ℕ} (read : (y ≡ here past) × (later ≡ next past (here past))) (f : d ≡ day y) (g : end' ≡ cond (eqb (left - 1) 0) n (min (d - start) n)) where
+      abbrev behind : List A
+      behind = records here next (left - 1) past
+
+      walk_here : Walk day value start n all i now (x ∷ behind) end
+      walk_here = subst (λ xs. Walk day value start n all i now xs end) (read_one here next left u.at h u.read) u.walk
+
+      end_next : end' ≡ first_entry day n start behind
+      end_next = end_is here next day start n (left - 1) past read.0 f g
+
+      pub reading_next : end ≤ i → Reading here next day value start n all i (value x) y later (left - 1) end'
+      reading_next a =
+          record {
+            at = past;
+            read = read;
+            within = omega (arith, u.within, read_past here next left u.at h u.read);
+            walk = walk_next day value start n x behind walk_here a end_next;
+          }
+
+      pub reading_forward : end ≤ end'
+      reading_forward = omega (arith, walk_here.ends, end_next, walk_forward day value start n x behind walk_here.ascend)
+
+-- TRANSFERS: who has the day of entry i, from `start` on
+abbrev pub owner_by : List Transfer → ℕ → ℕ → ℕ
+owner_by ts start i = latest (λ t. t.day) (λ t. t.provider) 0 ts (start + i)
 
 -- by a point's own transfers
 pub point_run : (point : Point) (start : ℕ) {ts : List Transfer} {n from to p : ℕ} → point.transfers ≡ ts → Run (owner_by ts start) n from to p →
@@ -83,97 +132,30 @@ unfolding provider_on
 point_run point start e run =
     record { forwards = run.forwards; within = run.within; same = λ i a b. ap (λ ts. owner_by ts start i) e ∙ run.same i a b }
 
--- THE LOOP: of n days from `start` on, those before the first transfer's entry are done, and the others have their owner by the transfers that are left
-module _ (file : List ℕ) (start n : ℕ) where
-  -- the entry of the first day that is not done
-  abbrev pub reached : ℕ → ℕ → ℕ
-  reached left at = first_entry (λ t. t.day) n start (transfers file left at)
+some_first : (file : List ℕ) (count at day : ℕ) → FirstBy day (transfers file count at) → 0 < count
+unfolding records
+some_first file zero at day f = absurd f
+some_first file (suc count) at day f = omega arith
 
-  pub record RunsLeft (owner : ℕ → ℕ) (left at : ℕ) : Type 0 where
-    pub ascend : Ascending 0 (map (λ t. t.day) (transfers file left at))
-    pub owners : (i : ℕ) → reached left at ≤ i → i < n → owner i ≡ owner_by (transfers file left at) start i
-    pub ends : after_transfers at (transfers file left at) < 2 ^ 32
+first_zero : (n start : ℕ) (ts : List Transfer) → FirstBy start ts → first_entry (λ t. t.day) n start ts ≡ 0
+unfolding first_entry
+first_zero n start [] h = absurd h
+first_zero n start (t ∷ ts) h = omega arith
 
-  -- at the start no day is done
-  module _ {count at : ℕ} (sound : SoundTransfers file count at start) where
-    runs_begin : RunsLeft (owner_by (transfers file count at) start) count at
-    runs_begin = record { ascend = sound.ascend; owners = λ i a b. refl; ends = sound.ends }
+-- at the start no day is done, and the first transfer is read
+module _ {file : List ℕ} {count at start : ℕ} (sound : SoundTransfers file count at start) where
+  pub some_transfers : 0 < count
+  some_transfers = some_first file count at start sound.first
 
-    none_reached : reached count at ≡ 0
-    none_reached = first_zero n start (transfers file count at) sound.first
+  pub transfers_within : at < 2 ^ 32
+  transfers_within = omega (arith, sound.ends, forward {next = λ at t. after_transfer at} (λ at t. omega arith) at (transfers file count at))
 
-  -- a transfer that was read, and those after it
-  transfers_one : (left at : ℕ) {next : ℕ} {t : Transfer} → 0 < left → (t ≡ transfer_at file at) × (next ≡ after_transfer at) →
-      transfers file left at ≡ t ∷ transfers file (left - 1) next
-  transfers_one left at h e = read_one (transfer_at file) (λ at t. after_transfer at) left at h e
-
-  module _ {owner : ℕ → ℕ} {left at : ℕ} (u : RunsLeft owner left at) where
-    transfer_small : at < 2 ^ 32
-    transfer_small = omega (arith, u.ends, forward {next = λ at t. after_transfer at} (λ at t. omega arith) at (transfers file left at))
-
-    -- one turn
-    module _ {next : ℕ} {t : Transfer} (h : 0 < left) (e : (t ≡ transfer_at file at) × (next ≡ after_transfer at)) where
-      abbrev later : List Transfer
-      later = transfers file (left - 1) next
-
-      one : transfers file left at ≡ t ∷ later
-      one = transfers_one left at h e
-
-      past : after_transfers at (transfers file left at) ≡ after_transfers next later
-      past = read_past (transfer_at file) (λ at t. after_transfer at) left at h e
-
-      ascends : Ascending 0 (map (λ t. t.day) (t ∷ later))
-      ascends = subst (λ ts. Ascending 0 (map (λ t. t.day) ts)) one u.ascend
-
-      -- the cursor after the transfer
-      next_small : next < 2 ^ 32
-      next_small = omega (arith, past, u.ends, forward {next = λ at t. after_transfer at} (λ at t. omega arith) next later)
-
-      -- the transfer's run goes up to the entry of the next one
-      run_owner : Run owner n (reached left at) (reached (left - 1) next) t.provider
-      run_owner =
-          record {
-            forwards = rw one (first_later n start t later ascends);
-            within = first_within (λ t. t.day) n start later;
-            same = λ i a b. u.owners i a (omega (arith, first_within (λ t. t.day) n start later)) ∙ (ap (λ ts. owner_by ts start i) one ∙ owner_here n start t later ascends i (rw one at a) b);
-          }
-
-      runs_turn : RunsLeft owner (left - 1) next
-      runs_turn =
-          record {
-            ascend = ascending_lower (map (λ t. t.day) later) zero-le ascends.1;
-            owners = λ i a b. u.owners i (omega (arith, run_owner.forwards)) b ∙ (ap (λ ts. owner_by ts start i) one ∙ owner_later n start t later ascends i a b);
-            ends = omega (arith, past, u.ends);
-          }
-
-  -- THE TRANSFER of the first day that is not done is read, and where the next one stands is known
-  pub record RunRead (owner : ℕ → ℕ) (left : ℕ) (t : Transfer) (next from : ℕ) : Type 0 where
-    pub at : ℕ
-    pub runs : RunsLeft owner left at
-    pub read : (t ≡ transfer_at file at) × (next ≡ after_transfer at)
-    pub here : from ≡ reached left at
-
-  module _ {count at : ℕ} (sound : SoundTransfers file count at start) where
-    pub first_small : at < 2 ^ 32
-    first_small = transfer_small (runs_begin sound)
-
-    pub read_begin : {t : Transfer} {next : ℕ} → (t ≡ transfer_at file at) × (next ≡ after_transfer at) → RunRead (owner_by (transfers file count at) start) count t next 0
-    read_begin read = record { at = at; runs = runs_begin sound; read = read; here = sym (none_reached sound) }
-
-  pub read_end : {owner : ℕ → ℕ} {left : ℕ} {t : Transfer} {next from : ℕ} → RunRead owner left t next from → left ≤ 0 → from ≡ n
-  read_end {owner} {left} u h = u.here ∙ sym (none_left (transfer_at file) (λ at t. after_transfer at) (λ t. t.day) start n left u.at (omega arith))
-
-  module _ {owner : ℕ → ℕ} {left : ℕ} {t : Transfer} {next from : ℕ} (u : RunRead owner left t next from) (some : 0 < left) where
-    pub next_read : next < 2 ^ 32
-    next_read = next_small u.runs some u.read
-
-    module _ {after to : ℕ} {later : Transfer} (read : (later ≡ transfer_at file next) × (after ≡ after_transfer next)) (g : to ≡ cond (eqb (left - 1) 0) n (min (later.day - start) n)) where
-      -- the run ends at the entry of the next one
-      to_is : to ≡ reached (left - 1) next
-      to_is = end_is (transfer_at file) (λ at t. after_transfer at) (λ t. t.day) start n (left - 1) next read.0 refl g
-
-      pub run_read : Run owner n from to t.provider
-      run_read = rw (u.here, to_is) (run_owner u.runs some u.read)
-
-      pub read_turn : RunRead owner (left - 1) later after to
-      read_turn = record { at = next; runs = runs_turn u.runs some u.read; read = read; here = to_is }
+  pub reading_first : {B : Type 0} (value : Transfer → B) (none : B) (n : ℕ) {t : Transfer} {past : ℕ} → (t ≡ transfer_at file at) × (past ≡ after_transfer at) →
+      Reading (transfer_at file) (λ at t. after_transfer at) (λ t. t.day) value start n (λ i. latest (λ t. t.day) value none (transfers file count at) (start + i)) 0 none t past count 0
+  reading_first value none n read =
+      record {
+        at = at;
+        read = read;
+        within = sound.ends;
+        walk = record { ascend = sound.ascend; same = λ j a b. refl; ends = sym (first_zero n start (transfers file count at) sound.first) };
+      }

@@ -3,10 +3,12 @@ use Prim.Native.Nat.{ℕ, ◌+◌, ◌-◌, ◌/◌, ◌%◌, ◌^◌, ◌≤◌
 use mathlib.Core.Path.{◌≡◌, refl, ◌∙◌, ap}
 use mathlib.Core.List.{List}
 use native.Mathlib.Omega.{arith}
+use lib.Dec.{eqb}
 use Rattle.bits.specs.Took.{Took}
 use Rattle.bits.specs.CutOut.{CutOut}
 use Rattle.rules.specs.Field.{field}
 use Rattle.rules.proofs.Fields.{field_part}
+use Rattle.rules.specs.declared.Service.{Service}
 use Rattle.rules.specs.declared.Header.{Header}
 use Rattle.rules.specs.declared.Band.{Band}
 use Rattle.rules.specs.declared.PointHead.{PointHead}
@@ -16,7 +18,7 @@ use Rattle.records.specs.declared.Groups.{Groups}
 use Rattle.records.specs.Conditions.{condition_of}
 use Rattle.rules.specs.declared.MeterHead.{MeterHead}
 use Rattle.rules.specs.declared.Read.{Read}
-use Rattle.rules.specs.File.{header_at, band_at, point_head_at, transfer_at, condition_at, meter_head_at, read_at, bands_at, after_band, transfers_from, after_transfer, after_condition, reads_from, after_read}
+use Rattle.rules.specs.File.{service_of, header_at, band_at, point_head_at, transfer_at, condition_at, meter_head_at, read_at, bands_at, after_band, transfers_from, after_transfer, after_condition, reads_from, after_read}
 
 -- a field that is cut out of a group: it ends `below` bits before the group does
 cut_field : {b : List ℕ} {here wide group next width below value : ℕ} (at : ℕ) → Took b here wide group next → CutOut group width below value
@@ -28,11 +30,11 @@ cut_field {b} {here} {wide} {group} {next} {width} {below} at t p l e =
     parts : wide ≡ at - here + width + below
     parts = omega (arith, t.after)
 
-pub header_taken : {b : List ℕ} {mark version service year bands points property roads capacity standard opening prices rates a1 a2 a3 : ℕ}
+pub header_taken : {b : List ℕ} {mark version bit year bands points property roads capacity standard opening prices rates a1 a2 a3 : ℕ} {service : Service}
     → Took b 0 45 opening a1 → Took b a1 28 prices a2 → Took b a2 34 rates a3
-    → CutOut opening 16 29 mark → CutOut opening 4 25 version → CutOut opening 1 24 service → CutOut opening 12 12 year → CutOut opening 5 7 bands → CutOut opening 7 0 points → CutOut prices 14 14 property → CutOut prices 14 0 roads → CutOut rates 17 17 capacity → CutOut rates 17 0 standard
+    → CutOut opening 16 29 mark → CutOut opening 4 25 version → CutOut opening 1 24 bit → service ≡ service_of bit → CutOut opening 12 12 year → CutOut opening 5 7 bands → CutOut opening 7 0 points → CutOut prices 14 14 property → CutOut prices 14 0 roads → CutOut rates 17 17 capacity → CutOut rates 17 0 standard
     → (◌≡◌ {A = Header} (record { mark = mark; version = version; service = service; year = year; bands = bands; points = points; property = property; roads = roads; capacity = capacity; standard = standard }) (header_at b)) × (a3 ≡ bands_at)
-header_taken t1 t2 t3 c1 c2 c3 c4 c5 c6 c7 c8 c9 c10 =
+header_taken t1 t2 t3 c1 c2 c3 e c4 c5 c6 c7 c8 c9 c10 =
     let s1 = cut_field 0 t1 c1 (omega arith) (omega arith) in
     let s2 = cut_field 16 t1 c2 (omega arith) (omega arith) in
     let s3 = cut_field 20 t1 c3 (omega arith) (omega arith) in
@@ -80,7 +82,7 @@ transfer_taken {at = at} t1 c1 c2 =
 -- a condition of its groups, and its groups as they are taken
 pub condition_cut : {g : Groups} {day vacant disconnected property roads schedule3 section29e : ℕ}
     → CutOut g.state 16 32 day → CutOut g.state 1 31 vacant → CutOut g.state 1 30 disconnected → CutOut g.state 1 29 property → CutOut g.state 1 28 roads → CutOut g.state 14 14 schedule3 → CutOut g.state 14 0 section29e
-    → ◌≡◌ {A = Condition} (record { day = day; vacant = vacant; disconnected = disconnected; property = property; roads = roads; schedule3 = schedule3; section29e = section29e; rateable = g.rateable }) (condition_of g)
+    → ◌≡◌ {A = Condition} (record { day = day; vacant = eqb vacant 1; disconnected = eqb disconnected 1; property = eqb property 1; roads = eqb roads 1; schedule3 = schedule3; section29e = section29e; rateable = g.rateable }) (condition_of g)
 unfolding condition_of
 condition_cut c1 c2 c3 c4 c5 c6 c7 =
     let s1 = c1.is in
@@ -124,7 +126,7 @@ meter_taken {at = at} t1 t2 c1 c2 c3 c4 c5 c6 =
 pub read_taken : {b : List ℕ} {at day rollover value whole a1 : ℕ}
     → Took b at 44 whole a1
     → CutOut whole 16 28 day → CutOut whole 1 27 rollover → CutOut whole 27 0 value
-    → (◌≡◌ {A = Read} (record { day = day; rollover = rollover; value = value }) (read_at b at)) × (a1 ≡ after_read at)
+    → (◌≡◌ {A = Read} (record { day = day; rollover = eqb rollover 1; value = value }) (read_at b at)) × (a1 ≡ after_read at)
 read_taken {at = at} t1 c1 c2 c3 =
     let s1 = cut_field at t1 c1 (omega arith) (omega arith) in
     let s2 = cut_field (at + 16) t1 c2 (omega arith) (omega arith) in

@@ -1,6 +1,6 @@
 -- From point to point of an accepted file: the points that are left at a position are its, are sound and end within the file. Assumes nothing.
 use Prim.Native.Nat.{ℕ, zero, suc, ◌+◌, ◌-◌, ◌*◌, ◌^◌, ◌≤◌, ◌<◌}
-use mathlib.Core.Path.{◌≡◌, refl, sym, ap, ◌∙◌, subst}
+use mathlib.Core.Path.{◌≡◌, refl, sym, ap, ap₂, ◌∙◌, subst}
 use mathlib.Core.Logic.{inl, inr}
 use mathlib.Core.List.{List, ◌∷◌}
 use native.Mathlib.Omega.{arith}
@@ -57,25 +57,32 @@ module _ (b : List ℕ) where
     point_among = p.among _ (subst (In (point_at b at)) (sym (points_one left at h)) (inl refl))
 
   -- all points, after the bands
-  module _ (g : Good b) {head : Header} {start : ℕ} (e : (head ≡ header_at b) × (start ≡ bands_at)) where
-    bands_end : start + head.bands * 90 ≡ after_bands bands_at (decode b).tariff.bands
+  module _ (g : Good b) {head : Header} {at : ℕ} (e : head ≡ header_at b) (f : at ≡ after_bands bands_at (bands b head.bands bands_at)) where
+    bands_end : at ≡ after_bands bands_at (decode b).tariff.bands
     unfolding decode
-    bands_end =
-        ap (λ (h : Header). start + h.bands * 90) e.0
-        ∙ (ap (λ s. s + (header_at b).bands * 90) e.1 ∙ sym (records_wide 90 (band_at b) (header_at b).bands bands_at))
+    bands_end = f ∙ ap (λ (h : Header). after_bands bands_at (bands b h.bands bands_at)) e
 
-    pub file_points : points b head.points (start + head.bands * 90) ≡ (decode b).points
+    pub first_points : points b head.points at ≡ (decode b).points
     unfolding decode
-    file_points = ap (λ at. points b head.points at) bands_end ∙ ap (λ (h : Header). points b h.points (after_bands bands_at (bands b (header_at b).bands bands_at))) e.0
+    first_points = ap (λ at. points b head.points at) bands_end ∙ ap (λ (h : Header). points b h.points (after_bands bands_at (bands b (header_at b).bands bands_at))) e
 
-    pub points_start : PointsLeft head.points (start + head.bands * 90)
-    points_start =
+    pub first_left : PointsLeft head.points at
+    first_left =
         record {
-          good = subst (All (GoodPoint (decode b).tariff.service)) (sym file_points) g.points;
-          ends = omega (arith, g.fits, ap (λ at. after_points at (points b head.points (start + head.bands * 90))) bands_end, ap (after_points (after_bands bands_at (decode b).tariff.bands)) file_points);
+          good = subst (All (GoodPoint (decode b).tariff.service)) (sym first_points) g.points;
+          ends = omega (arith, g.fits, ap (λ from. after_points from (points b head.points at)) bands_end, ap (after_points (after_bands bands_at (decode b).tariff.bands)) first_points);
           short = g.short;
-          among = λ point m. subst (In point) file_points m;
+          among = λ point m. subst (In point) first_points m;
         }
+
+  -- the cursor past as many bands as the header says is after the bands
+  pub past_bands : (head : Header) {start n : ℕ} → (start ≡ bands_at) × (n ≡ head.bands) → start + n * 90 ≡ after_bands bands_at (bands b head.bands bands_at)
+  past_bands head e = ap₂ (λ (s n : ℕ). s + n * 90) e.0 e.1 ∙ sym (records_wide 90 (band_at b) head.bands bands_at)
+
+  -- all points again, by that cursor
+  module _ (g : Good b) {head : Header} {start : ℕ} (e : (head ≡ header_at b) × (start ≡ bands_at)) where
+    pub points_start : PointsLeft head.points (start + head.bands * 90)
+    points_start = first_left g e.0 (past_bands head (e.1, refl))
 
     pub year_from_lem : 2020 ≤ head.year
     unfolding decode

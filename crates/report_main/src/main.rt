@@ -3,29 +3,24 @@
 // report space.
 ghost use Rattle.std.specs.Prelude.{◌≤◌, length};
 
-fn print_refusal(space: &mut [u8], number: u64)
+use std::io;
+use std::io::Write;
+
+fn print_report<W: Write>(out: &mut W, file: &[u8], space: &mut [u8]) -> io::Result<()>
     requires { 32 ≤ length space.old }
 {
-    let end = report::write_refusal(space, number);
-    io::write_all(1, &space[..end]);
+    let end = match unit::settlement_report(file, space) {
+        Ok(length) => length,
+        Err(breach) => report::write_refusal(space, breach.number()),
+    };
+    out.write_all(&space[..end])
 }
 
-// No report is under 52 bytes, and no refusal's number over 14.
-fn print_report(file: &[u8], space: &mut [u8])
-    requires { 32 ≤ length space.old }
-{
-    let answer = unit::settlement_report(file, space);
-    if answer < 52 {
-        print_refusal(space, answer);
-        return;
-    }
-    let end = answer as usize;
-    io::write_all(1, &space[..end]);
-}
-
-fn main() {
+fn main(rt: HostRuntime) -> io::Result<()> {
     let mut file = batch::room();
-    let mut space = io::large_buffer();
-    let size = io::read_full(0, &mut file);
-    print_report(&file[..size], &mut space);
+    let mut space = [0u8; 65536];
+    let mut input = rt.stdin();
+    let size = batch::read_full(&mut input, &mut file)?;
+    let mut out = rt.stdout();
+    print_report(&mut out, &file[..size], &mut space)
 }

@@ -1,7 +1,8 @@
 -- What a file that breaks no rule holds: the theorem that the stages after the check cite. Assumes nothing.
-use Prim.Native.Nat.{ℕ, ◌+◌, ◌*◌, ◌≤◌, ◌<◌}
+use Prim.Native.Nat.{ℕ, ◌+◌, ◌≤◌, ◌<◌}
 use Prim.{tt}
 use mathlib.Core.Path.{◌≡◌}
+use mathlib.Core.Bool.{Bool, true, false}
 use mathlib.Core.Option.{Option, none, some}
 use mathlib.Core.List.{List, [], ◌∷◌, ◌++◌, map}
 use native.Mathlib.Numerals.{add-one}
@@ -10,8 +11,9 @@ use native.Mathlib.Decide.{dec_lt}
 use lib.ListN.{length}
 use lib.Dec.{ltb}
 use borrow.Author.Tests.{lt-ltb, le-ltb}
-use Rattle.rules.proofs.Fields.{field_lt}
 use Rattle.rules.specs.declared.Form.{Form}
+use Rattle.rules.specs.declared.Service.{Service}
+use Rattle.rules.specs.declared.Service.TheVariants.{Water}
 use Rattle.rules.specs.declared.Band.{Band}
 use Rattle.rules.specs.declared.PointHead.{PointHead}
 use Rattle.rules.specs.declared.Transfer.{Transfer}
@@ -19,9 +21,10 @@ use Rattle.rules.specs.declared.Condition.{Condition}
 use Rattle.rules.specs.declared.MeterHead.{MeterHead}
 use Rattle.rules.specs.declared.Read.{Read}
 use Rattle.rules.specs.Lists.{All, Ascending}
+use Rattle.rules.specs.Sums.{only}
 use Rattle.rules.specs.File.{Meter, Point, meter_head, point_head, file_header, bands_at, after_band, after_bands, transfers_from, after_transfer, after_transfers, after_condition, after_conditions, reads_from, after_read, after_reads, after_meter, after_meters, after_point, after_points, after, decode_in}
 use Rattle.rules.specs.Litres.{dial_values}
-use Rattle.rules.specs.Refusal.{when, file_refusal_in}
+use Rattle.rules.specs.Refusal.{file_refusal_in}
 use Rattle.rules.specs.Lawful.{Record, band, transfer, condition, read, in_turn, meter_records, point_records, width, placed, Above, Turned, rules_for, Keeps, bits_of, SoundIn}
 use Rattle.rules.specs.Good.{GoodBand, GoodTransfer, FirstBy, GoodCondition, Undrained, GoodRead, GoodAdvances, GoodMeterHead, GoodMeter, GoodPointHead, GoodPoint, GoodHeader, GoodIn}
 use Rattle.rules.proofs.Lists.{all_all, all_apart}
@@ -73,8 +76,8 @@ module _ (bits : ℕ) where
   first_by connected at [] k one = omega arith
   first_by connected at (t ∷ ts) k one = k.0.1.1.1.0
 
-  good_conditions : (service at : ℕ) (before : Option Condition) (cs : List Condition) → All (Keeps bits) (placed at (in_turn (condition service) before cs)) → at ≤ bits →
-      Through (λ c. GoodCondition c × (service ≡ 0 → Undrained c)) (λ c. c.day) (least_after (λ c. c.day) before) cs (after_conditions at cs) bits
+  good_conditions : (service : Service) (at : ℕ) (before : Option Condition) (cs : List Condition) → All (Keeps bits) (placed at (in_turn (condition service) before cs)) → at ≤ bits →
+      Through (λ c. GoodCondition c × (service ≡ Water → Undrained c)) (λ c. c.day) (least_after (λ c. c.day) before) cs (after_conditions at cs) bits
   unfolding in_turn placed width rules_for after
   good_conditions service at before [] k w = record { each = tt; ascend = tt; within = w }
   good_conditions service at before (c ∷ cs) k w =
@@ -95,17 +98,18 @@ module _ (bits : ℕ) where
       record { each = (g, q.each); ascend = ascends (λ r. r.day) (least_after (λ r. r.day) before) r rs (least_above (λ r. r.day) before r k.0.1.1.0) q.ascend; within = q.within }
 
 -- values a and then b of a dial of D values: rollover is set exactly when the value falls
-advance_within : (a b rollover D : ℕ) → a < D → b < D → rollover ≡ when (ltb b a) 1 0 → (a ≤ b + rollover * D) × (b + rollover * D < a + D)
+advance_within : (a b : ℕ) (rollover : Bool) (D : ℕ) → a < D → b < D → rollover ≡ ltb b a → (a ≤ b + only rollover D) × (b + only rollover D < a + D)
+unfolding only
 advance_within a b rollover D h k e = go (dec_lt b a)
   where
-    go : Dec (b < a) → (a ≤ b + rollover * D) × (b + rollover * D < a + D)
-    go (yes f) = let s : rollover ≡ 1 = simp (lt-ltb b a f) at e in rw s (omega arith)
-    go (no f) = let s : rollover ≡ 0 = simp (le-ltb b a (omega arith)) at e in rw s (omega arith)
+    go : Dec (b < a) → (a ≤ b + only rollover D) × (b + only rollover D < a + D)
+    go (yes f) = let s : rollover ≡ true = simp (lt-ltb b a f) at e in rw s (omega arith)
+    go (no f) = let s : rollover ≡ false = simp (le-ltb b a (omega arith)) at e in rw s (omega arith)
 
-turned_when : (a r : Read) → Turned (some a) r → r.rollover ≡ when (ltb r.value a.value) 1 0
+turned_when : (a r : Read) → Turned (some a) r → r.rollover ≡ ltb r.value a.value
 turned_when a r t = go (dec_lt r.value a.value)
   where
-    go : Dec (r.value < a.value) → r.rollover ≡ when (ltb r.value a.value) 1 0
+    go : Dec (r.value < a.value) → r.rollover ≡ ltb r.value a.value
     go (yes f) = rw (lt-ltb r.value a.value f) (t.0 f)
     go (no f) = let stays : a.value ≤ r.value = omega arith in rw (le-ltb r.value a.value stays) (t.1 stays)
 
@@ -122,8 +126,8 @@ module _ (bits : ℕ) where
         good_advances m (after_read at) (some a) (b ∷ rs) k.1,
       )
 
-  good_meters : (service at : ℕ) (ms : List Meter) → All (Keeps bits) (placed at (meter_records service ms)) → at ≤ bits →
-      All GoodMeter ms × (after_meters at ms ≤ bits) × (service ≡ 0 → All (λ m. m.returned ≡ 100) ms)
+  good_meters : (service : Service) (at : ℕ) (ms : List Meter) → All (Keeps bits) (placed at (meter_records service ms)) → at ≤ bits →
+      All GoodMeter ms × (after_meters at ms ≤ bits) × (service ≡ Water → All (λ m. m.returned ≡ 100) ms)
   unfolding meter_records placed width rules_for after
   good_meters service at [] k w = (tt, w, λ e. tt)
   good_meters service at (m ∷ ms) k w =
@@ -145,7 +149,7 @@ module _ (bits : ℕ) where
       let q = good_meters service (after_meter at m) ms s.1 r.within in
       ((record { head = g; reads = r.each; days = r.ascend; advances = v }, q.0), q.1, λ e. (range.2 e, q.2 e))
 
-  good_points : (service at : ℕ) (before : Option PointHead) (ps : List Point) → All (Keeps bits) (placed at (point_records service before ps)) → at ≤ bits →
+  good_points : (service : Service) (at : ℕ) (before : Option PointHead) (ps : List Point) → All (Keeps bits) (placed at (point_records service before ps)) → at ≤ bits →
       Through (GoodPoint service) (λ p. p.number) (least_after (λ p. p.number) before) ps (after_points at ps) bits
   unfolding point_records placed width rules_for after
   good_points service at before [] k w = record { each = tt; ascend = tt; within = w }
@@ -187,10 +191,6 @@ module _ (bits : ℕ) where
       } in
       record { each = (good, q.each); ascend = ascends (λ p. p.number) (least_after (λ p. p.number) before) p ps (least_above (λ p. p.number) before (point_head p) k.0.1.1.0) q.ascend; within = q.within }
 
-service_bit : (form : Form) (b : List ℕ) → (decode_in form b).tariff.service < 2
-unfolding decode_in
-service_bit form b = field_lt b 20 1
-
 pub sound_good : (form : Form) (b : List ℕ) → SoundIn form b → GoodIn form b
 unfolding rules_for
 sound_good form b s =
@@ -220,7 +220,6 @@ sound_good form b s =
     } in
     record {
       short = s.short;
-      service = service_bit form b;
       header = header;
       bands = bs.each;
       band_sizes = bs.ascend;

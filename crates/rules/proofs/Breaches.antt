@@ -11,6 +11,7 @@ use lib.ListN.{length}
 use lib.Dec.{ltb, leb, eqb}
 use borrow.Author.Tests.{ltb-true, ltb-false}
 use Rattle.rules.specs.declared.Form.{Form}
+use Rattle.rules.specs.declared.Service.{Service}
 use Rattle.rules.specs.declared.Band.{Band}
 use Rattle.rules.specs.declared.PointHead.{PointHead}
 use Rattle.rules.specs.declared.Transfer.{Transfer}
@@ -52,7 +53,7 @@ module _ (bits : ℕ) where
   transfers_numbered at connected before [] = done
   transfers_numbered at connected before (t ∷ ts) = more (transfer_gives bits (after_transfer at) connected before t) (transfers_numbered (after_transfer at) connected (some t) ts)
 
-  conditions_numbered : (service at : ℕ) (before : Option Condition) (cs : List Condition) →
+  conditions_numbered : (service : Service) (at : ℕ) (before : Option Condition) (cs : List Condition) →
       Numbered bits (placed at (in_turn (condition service) before cs)) (condition_numbers bits service at (least_after (λ c. c.day) before) cs)
   unfolding condition_numbers in_turn placed width
   conditions_numbered service at before [] = done
@@ -64,7 +65,7 @@ module _ (bits : ℕ) where
   reads_numbered m at before [] = done
   reads_numbered m at before (r ∷ rs) = more (read_gives bits (after_read at) m before r) (reads_numbered m (after_read at) (some r) rs)
 
-  meters_numbered : (service at : ℕ) (ms : List Meter) → Numbered bits (placed at (meter_records service ms)) (meter_numbers bits service at ms)
+  meters_numbered : (service : Service) (at : ℕ) (ms : List Meter) → Numbered bits (placed at (meter_records service ms)) (meter_numbers bits service at ms)
   unfolding meter_numbers meter_records placed width
   meters_numbered service at [] = done
   meters_numbered service at (m ∷ ms) =
@@ -75,7 +76,7 @@ module _ (bits : ℕ) where
       (reads_numbered head (reads_from at) none m.reads)
       (meters_numbered service (after_meter at m) ms))
 
-  inside_numbered : (service at : ℕ) (p : Point) →
+  inside_numbered : (service : Service) (at : ℕ) (p : Point) →
       Numbered bits (placed at (inside service p))
       (transfer_numbers bits at 0 p.supply.connected p.transfers
       ++ condition_numbers bits service (after_transfers at p.transfers) 0 p.supply.conditions
@@ -92,7 +93,7 @@ module _ (bits : ℕ) where
       (conditions_numbered service conditions_from none supply.conditions))
       (meters_numbered service meters_from supply.meters)
 
-  points_numbered : (service at : ℕ) (before : Option PointHead) (ps : List Point) →
+  points_numbered : (service : Service) (at : ℕ) (before : Option PointHead) (ps : List Point) →
       Numbered bits (placed at (point_records service before ps)) (point_numbers bits service at (least_after (λ p. p.number) before) ps)
   unfolding point_numbers point_records placed width
   points_numbered service at before [] = done

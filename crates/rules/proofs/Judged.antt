@@ -5,10 +5,12 @@ use mathlib.Core.Path.{◌≡◌, refl, ap}
 use mathlib.Core.Logic.{◌↔◌, inl, inr}
 use mathlib.Core.Option.{Option, none, some}
 use mathlib.Core.List.{List, [], ◌∷◌}
-use mathlib.Core.Bool.{Bool, true, false, ◌&&◌, ◌||◌, not}
+use mathlib.Core.Bool.{Bool, true, false, beq, ◌&&◌, ◌||◌, not}
 use native.Mathlib.Omega.{arith}
 use lib.Dec.{ltb, leb, eqb}
 use borrow.Author.Tests.{ltb-true, ltb-false, leb-true, leb-false, eqb-true, eqb-false, not-false, le-ltb, lt-leb, eq-eqb, ne_eqb}
+use Rattle.rules.specs.declared.Service.{Service}
+use Rattle.rules.specs.declared.Service.TheVariants.{Water, Sewerage}
 use Rattle.rules.specs.declared.Header.{Header}
 use Rattle.rules.specs.declared.Form.{Form}
 use Rattle.rules.specs.declared.Band.{Band}
@@ -21,7 +23,7 @@ use Rattle.rules.specs.Lists.{All}
 use Rattle.rules.specs.Calendar.{no_day}
 use Rattle.rules.specs.Litres.{dial_values}
 use Rattle.rules.specs.Lawful.{Record, header, band, point, transfer, condition, meter, read, IsDay, Between, DryInWater, HeaderInRange, BandInRange, PointInRange, TransferInRange, ConditionInRange, MeterInRange, ReadInRange, Above, Turned, Rule, rule, rules_for, rules_of, Breaks}
-use Rattle.rules.specs.Refusal.{when, outside, header_outside, band_outside, point_outside, transfer_outside, condition_outside, meter_outside, read_outside, header_rule, band_rule, point_rule, transfer_rule, condition_rule, meter_rule, read_rule}
+use Rattle.rules.specs.Refusal.{when, outside, is_water, header_outside, band_outside, point_outside, transfer_outside, condition_outside, meter_outside, read_outside, header_rule, band_rule, point_rule, transfer_rule, condition_rule, meter_rule, read_rule}
 
 -- TESTS: each is false exactly where what it tries is so
 abbrev pub Tries : Bool → Type 0 → Type 0
@@ -61,15 +63,18 @@ inside : (low x high : ℕ) → Tries (outside low x high) (Between low high x)
 inside low x high = or (not_above x low) (not_above high x)
 
 -- what is asked of a water file alone
-in_water : (service : ℕ) {t : Bool} {A : Type 0} → Tries t A → Tries (eqb service 0 && t) (service ≡ 0 → A)
-in_water zero f = (λ h e. f.0 h, λ x. f.1 (x refl))
-in_water (suc service) f = (λ h e. absurd (omega arith), λ x. simp (ne_eqb (suc service) 0 (omega arith)))
+in_water : (service : Service) {t : Bool} {A : Type 0} → Tries t A → Tries (is_water service && t) (service ≡ Water → A)
+in_water Water f = (λ h e. f.0 h, λ x. f.1 (x refl))
+in_water Sewerage f = (λ h e. cc, λ x. refl)
 
-dry : (service property roads : ℕ) → Tries (eqb service 0 && (ltb 0 property || ltb 0 roads)) (DryInWater service property roads)
+dry : (service : Service) (property roads : ℕ) → Tries (is_water service && (ltb 0 property || ltb 0 roads)) (DryInWater 0 service property roads)
 dry service property roads = in_water service (or (none_of property) (none_of roads))
   where
     none_of : (x : ℕ) → Tries (ltb 0 x) (x ≡ 0)
     none_of x = (λ h. omega (arith, ltb-false 0 x h), λ h. le-ltb 0 x (omega arith))
+
+undrained : (service : Service) (property roads : Bool) → Tries (is_water service && (property || roads)) (DryInWater false service property roads)
+undrained service property roads = in_water service (or (λ h. h, λ h. h) (λ h. h, λ h. h))
 
 -- RANGES
 header_range : (form : Form) (h : Header) → Tries (header_outside form h) (HeaderInRange form h)
@@ -106,13 +111,13 @@ point_range p =
 transfer_range : (t : Transfer) → Tries (transfer_outside t) (TransferInRange t)
 transfer_range t = or (a_day t.day) (from_one t.provider)
 
-condition_range : (service : ℕ) (c : Condition) → Tries (condition_outside service c) (ConditionInRange service c)
+condition_range : (service : Service) (c : Condition) → Tries (condition_outside service c) (ConditionInRange service c)
 condition_range service c =
-    let f = or (or (or (or (a_day c.day) (dry service c.property c.roads)) (not_above 10000 c.schedule3)) (not_above 10000 c.section29e))
+    let f = or (or (or (or (a_day c.day) (undrained service c.property c.roads)) (not_above 10000 c.schedule3)) (not_above 10000 c.section29e))
     (not_above 10000000 c.rateable) in
     (λ e. let x = f.0 e in (x.0.0.0.0, x.0.0.0.1, x.0.0.1, x.0.1, x.1), λ x. f.1 ((((x.0, x.1), x.2), x.3), x.4))
 
-meter_range : (service : ℕ) (m : MeterHead) → Tries (meter_outside service m) (MeterInRange service m)
+meter_range : (service : Service) (m : MeterHead) → Tries (meter_outside service m) (MeterInRange service m)
 meter_range service m =
     let f = or (or (or (or (or (not_above 100 m.share) (not_above 100 m.returned)) (in_water service (the_same m.returned 100))) (inside 4 m.digits 8))
     (a_day m.installed))
@@ -137,18 +142,24 @@ abbrev pub value_before : Option Read → ℕ
 value_before none = 0
 value_before (some a) = a.value
 
-turned : (before : Option Read) (r : Read) → Tries (not (eqb r.rollover (when (ltb r.value (value_before before)) 1 0))) (Turned before r)
-turned none r = simp (le-ltb r.value 0 (omega arith)) (the_same r.rollover 0)
+same_flag : (a b : Bool) → Tries (not (beq a b)) (a ≡ b)
+same_flag true true = (λ h. refl, λ h. refl)
+same_flag true false = (λ h. cc, λ h. cc)
+same_flag false true = (λ h. cc, λ h. cc)
+same_flag false false = (λ h. refl, λ h. refl)
+
+turned : (before : Option Read) (r : Read) → Tries (not (beq r.rollover (ltb r.value (value_before before)))) (Turned before r)
+turned none r = simp (le-ltb r.value 0 (omega arith)) (same_flag r.rollover false)
 turned (some a) r = go (ltb r.value a.value) refl
   where
-    go : (t : Bool) → ltb r.value a.value ≡ t → Tries (not (eqb r.rollover (when t 1 0))) (Turned (some a) r)
+    go : (t : Bool) → ltb r.value a.value ≡ t → Tries (not (beq r.rollover t)) (Turned (some a) r)
     go true e =
         let falls = ltb-true r.value a.value e in
-        let same = the_same r.rollover 1 in
+        let same = same_flag r.rollover true in
         (λ h. (λ k. same.0 h, λ k. absurd (omega arith)), λ x. same.1 (x.0 falls))
     go false e =
         let stays = ltb-false r.value a.value e in
-        let same = the_same r.rollover 0 in
+        let same = same_flag r.rollover false in
         (λ h. (λ k. absurd (omega arith), λ k. same.0 h), λ x. same.1 (x.1 stays))
 
 -- the latest day allowed for a transfer: the connection's for the first, and else any
@@ -245,7 +256,7 @@ module _ (bits next : ℕ) where
       (judge 5 refl (above (λ p. p.number) before p)
       (judge 8 refl (not_above p.disconnected p.connected) clear)))
 
-  pub condition_gives : (service : ℕ) (before : Option Condition) (c : Condition) →
+  pub condition_gives : (service : Service) (before : Option Condition) (c : Condition) →
       Gives (condition service before c) (condition_rule bits next service (least_after (λ c. c.day) before) c)
   unfolding condition_rule rules_for
   condition_gives service before c =
@@ -254,12 +265,12 @@ module _ (bits next : ℕ) where
       (judge 5 refl (above (λ c. c.day) before c)
       (judge 7 refl (not_above 10000 (c.schedule3 + c.section29e)) clear)))
 
-  pub meter_gives : (service : ℕ) (m : MeterHead) → Gives (meter service m) (meter_rule bits next service m)
+  pub meter_gives : (service : Service) (m : MeterHead) → Gives (meter service m) (meter_rule bits next service m)
   unfolding meter_rule rules_for
   meter_gives service m =
       judge 2 refl (not_above bits next) (judge 4 refl (meter_range service m) (judge 8 refl (not_above m.removed m.installed) clear))
 
-  pub meter_digits : (service : ℕ) (m : MeterHead) → meter_rule bits next service m ≡ 0 → Between 4 8 m.digits
+  pub meter_digits : (service : Service) (m : MeterHead) → meter_rule bits next service m ≡ 0 → Between 4 8 m.digits
   unfolding rules_for
   meter_digits service m z = (kept (meter_gives service m) z).1.0.3
 
@@ -282,7 +293,7 @@ module _ (bits next : ℕ) where
       Gives (read m before r) (read_rule bits next m (least_after (λ r. r.day) before) (latest_read before) (value_before before) r)
   unfolding read_rule rules_for
   read_gives m none r =
-      rw (any_day r.day (leb (dial_values m.digits) r.value) (λ n. when (ltb r.day 0) 5 (when (ltb r.day m.installed || ltb m.removed r.day) 9 (when (not (eqb r.rollover (when (ltb r.value 0) 1 0))) 10 n))) 11)
+      rw (any_day r.day (leb (dial_values m.digits) r.value) (λ n. when (ltb r.day 0) 5 (when (ltb r.day m.installed || ltb m.removed r.day) 9 (when (not (beq r.rollover (ltb r.value 0))) 10 n))) 11)
       (judge 2 refl (not_above bits next)
       (judge 4 refl (read_range m r)
       (judge 5 refl (above (λ r. r.day) none r)

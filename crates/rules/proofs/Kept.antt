@@ -103,7 +103,7 @@ row_sum tariff m add (point ∷ points) row =
     let here = provider_at tariff point row.provider in
     omega (arith, row_sum tariff m add points (plus row here), add row here)
 
-row_provider : (tariff : Tariff) (points : List Point) (row : Row) → (row_and tariff row points).provider ≡ row.provider
+pub row_provider : (tariff : Tariff) (points : List Point) (row : Row) → (row_and tariff row points).provider ≡ row.provider
 unfolding row_and plus
 row_provider tariff [] row = refl
 row_provider tariff (point ∷ points) row = row_provider tariff points (plus row (provider_at tariff point row.provider))

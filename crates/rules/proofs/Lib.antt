@@ -4,6 +4,7 @@ pub mod Sums
 pub mod Rows
 pub mod Providers
 pub mod Fields
+pub mod Exits
 pub mod Positions
 pub mod Placed
 pub mod Judged
@@ -15,5 +16,4 @@ pub mod Forms
 pub mod Examples
 pub mod Sentences
 pub mod Numbers
-pub mod Services
 pub mod Refused

@@ -1,19 +1,25 @@
--- The numbers that the services give: no number of a breach is over 14, and no report is under 52 bytes, so the report service's one number tells
--- a length from a refusal. Assumes nothing.
+-- The numbers that the services give: none is 0, the report service refuses with no number over 14, and no report is under 52 bytes, so that
+-- service's one number tells a length from a refusal. Assumes nothing.
 use Prim.Native.Nat.{ℕ, zero, suc, ◌≤◌, ◌<◌}
-use mathlib.Core.Path.{◌≡◌, refl, ap}
+use mathlib.Core.Path.{◌≡◌, refl}
 use mathlib.Core.Logic.{◌↔◌, ◌⊎◌, inl, inr}
 use mathlib.Core.List.{List, [], ◌∷◌}
 use native.Mathlib.Omega.{arith}
-use lib.ListN.{length, drop, length-append}
+use lib.ListN.{length}
+use Rattle.rules.specs.declared.Breach.{Breach}
+use Rattle.rules.specs.Numbered.{number_of}
 use Rattle.rules.specs.Form.{form_at}
 use Rattle.rules.specs.File.{decode}
 use Rattle.rules.specs.Refusal.{first_or, refusal}
 use Rattle.rules.specs.Lawful.{Lawful, First, here, past, NoBreach, FirstBreach}
 use Rattle.rules.specs.Report.{report}
-use Rattle.rules.specs.Services.{written, room_number, report_number, report_answer, report_after}
+use Rattle.rules.specs.Services.{room_number, report_number, report_answer}
 use Rattle.rules.proofs.Breaches.{Says, none_says, over_says, breach_says, breach_or, lawful_past, accepted_lawful}
 use Rattle.rules.proofs.Sentences.{no_report_under_52}
+
+-- every breach has a number: 0 is no breach's
+pub positive : (breach : Breach) → 0 < number_of breach
+positive breach = grind arith
 
 -- A SERVICE'S NUMBER
 -- 14, after the file's own, where what was lent has fewer elements than are wanted
@@ -58,12 +64,3 @@ module _ (file : List ℕ) (room : ℕ) where
       go zero e =
           let free = (none_free (room_says file room (length (report (decode file)))) (omega arith)).0 e in
           inr (no_report_under_52 (form_at file) file ((accepted_lawful (form_at file) file).1 free.0), omega (arith, free.1))
-
--- an answer over 14 is a length, and so many bytes are there afterwards
-pub length_within : (file space exit : List ℕ) (answer : ℕ) → answer ≡ report_answer file (length space) → exit ≡ report_after file space → 14 < answer → answer ≤ length exit
-unfolding report_answer report_after first_or written
-length_within file space exit answer e f h = go (report_number file (length space)) refl e f
-  where
-    go : (n : ℕ) → report_number file (length space) ≡ n → answer ≡ first_or (n ∷ []) (length (report (decode file))) → exit ≡ written n (report (decode file)) space → answer ≤ length exit
-    go zero z a x = omega (arith, a, ap length x, length-append (report (decode file)) (drop (length (report (decode file))) space))
-    go (suc n) z a x = absurd (omega (arith, h, a, z, number_low file (length space)))

@@ -5,6 +5,7 @@ use mathlib.Core.Option.{Option, none, some}
 use mathlib.Core.List.{List, [], ◌∷◌, ◌++◌}
 use native.Mathlib.Omega.{arith}
 use Rattle.rules.specs.declared.Header.{Header}
+use Rattle.rules.specs.declared.Service.{Service}
 use Rattle.rules.specs.declared.Band.{Band}
 use Rattle.rules.specs.declared.PointHead.{PointHead}
 use Rattle.rules.specs.declared.Transfer.{Transfer}
@@ -40,7 +41,7 @@ pub transfers_end : (connected at : ℕ) (ts : List Transfer) → ends at (in_tu
 unfolding width
 transfers_end connected at ts = ends_turn (transfer connected) 32 (λ before t. refl) at none ts
 
-pub conditions_end : (service at : ℕ) (cs : List Condition) → ends at (in_turn (condition service) none cs) ≡ after_conditions at cs
+pub conditions_end : (service : Service) (at : ℕ) (cs : List Condition) → ends at (in_turn (condition service) none cs) ≡ after_conditions at cs
 unfolding width
 conditions_end service at cs = ends_turn (condition service) 72 (λ before c. refl) at none cs
 
@@ -52,7 +53,7 @@ pub reads_end : (m : MeterHead) (at : ℕ) (rs : List Read) → ends at (in_turn
 unfolding width
 reads_end m at rs = ends_turn (read m) 44 (λ before r. refl) at none rs
 
-pub meters_end : (service at : ℕ) (ms : List Meter) → ends at (meter_records service ms) ≡ after_meters at ms
+pub meters_end : (service : Service) (at : ℕ) (ms : List Meter) → ends at (meter_records service ms) ≡ after_meters at ms
 unfolding after meter_records width
 meters_end service at [] = refl
 meters_end service at (m ∷ ms) =
@@ -60,26 +61,26 @@ meters_end service at (m ∷ ms) =
     ∙ (ap (λ k. ends k (meter_records service ms)) (reads_end (meter_head m) (reads_from at) m.reads) ∙ meters_end service (after_meter at m) ms)
 
 -- a point's transfers and conditions, and with them its meters
-abbrev pub dated : ℕ → Point → List Record
+abbrev pub dated : Service → Point → List Record
 dated service p = in_turn (transfer p.supply.connected) none p.transfers ++ in_turn (condition service) none p.supply.conditions
 
-abbrev pub inside : ℕ → Point → List Record
+abbrev pub inside : Service → Point → List Record
 inside service p = dated service p ++ meter_records service p.supply.meters
 
-pub dated_end : (service at : ℕ) (p : Point) → ends at (dated service p) ≡ after_conditions (after_transfers at p.transfers) p.supply.conditions
+pub dated_end : (service : Service) (at : ℕ) (p : Point) → ends at (dated service p) ≡ after_conditions (after_transfers at p.transfers) p.supply.conditions
 dated_end service at p =
     let ts = in_turn (transfer p.supply.connected) none p.transfers in
     let cs = in_turn (condition service) none p.supply.conditions in
     ends_append at ts cs
     ∙ (ap (λ k. ends k cs) (transfers_end p.supply.connected at p.transfers) ∙ conditions_end service (after_transfers at p.transfers) p.supply.conditions)
 
-pub inside_end : (service at : ℕ) (p : Point) → ends (transfers_from at) (inside service p) ≡ after_point at p
+pub inside_end : (service : Service) (at : ℕ) (p : Point) → ends (transfers_from at) (inside service p) ≡ after_point at p
 inside_end service at p =
     let ms = meter_records service p.supply.meters in
     ends_append (transfers_from at) (dated service p) ms
     ∙ (ap (λ k. ends k ms) (dated_end service (transfers_from at) p) ∙ meters_end service _ p.supply.meters)
 
-pub points_end : (service at : ℕ) (before : Option PointHead) (ps : List Point) → ends at (point_records service before ps) ≡ after_points at ps
+pub points_end : (service : Service) (at : ℕ) (before : Option PointHead) (ps : List Point) → ends at (point_records service before ps) ≡ after_points at ps
 unfolding after point_records width
 points_end service at before [] = refl
 points_end service at before (p ∷ ps) =

@@ -7,9 +7,11 @@ use mathlib.Core.List.{List, [], ◌∷◌, ◌++◌}
 use native.Mathlib.Nat.{zero-mul, mul-zero, pow-suc, one-le-pow, le-div_iff_mul-le}
 use native.Mathlib.Omega.{arith}
 use native.Mathlib.Decide.{dec_lt}
-use lib.Dec.{ltb, eqb}
+use lib.Dec.{ltb}
 use lib.ListN.{length, length-append}
 use borrow.Author.Tests.{le-ltb}
+use Rattle.rules.specs.declared.Service.{Service}
+use Rattle.rules.specs.declared.Service.TheVariants.{Water, Sewerage}
 use Rattle.rules.specs.Sums.{over_days}
 use Rattle.rules.specs.declared.Form.{Form}
 use Rattle.rules.specs.File.{Point, Tariff, decode_in}
@@ -64,13 +66,10 @@ digits_long (suc k) (suc more) n h m =
     let shorter = digits_long k more (n / 10) ((le-div_iff_mul-le {k = 10} (omega arith)).1 tenfold) (omega arith) in
     simp (le-ltb n 10 (omega arith), length-append) (omega arith)
 
-service_long : (service : ℕ) → 5 ≤ length (service_name service)
+service_long : (service : Service) → 5 ≤ length (service_name service)
 unfolding service_name text
-service_long service = pick (eqb service 0)
-  where
-    pick : (t : Bool) → 5 ≤ length (cond t (text "Water") (text "Sewerage"))
-    pick true = omega arith
-    pick false = omega arith
+service_long Water = omega arith
+service_long Sewerage = omega arith
 
 pub no_report_under_52 : (form : Form) (bytes : List ℕ) → AcceptedIn form bytes → 52 ≤ length (report (decode_in form bytes))
 unfolding report report_of heading field text decimal

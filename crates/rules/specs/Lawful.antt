@@ -1,9 +1,11 @@
 -- Document 01, "Numbers of a breach", with the forms of document 02, rule by rule: what each record is held to, when a file breaks no rule, and
 -- which breach is the first.
 -- Nothing here follows `Refusal`, which computes the number; `Promises.Demand1` says that what it computes is this.
-use Rattle.std.specs.Prelude.{ℕ, ◌+◌, ◌-◌, ◌*◌, ◌≤◌, ◌<◌, ◌≡◌, List, [], ◌∷◌, ◌++◌, length}
+use Rattle.std.specs.Prelude.{ℕ, ◌+◌, ◌-◌, ◌*◌, ◌≤◌, ◌<◌, ◌≡◌, true, false, List, [], ◌∷◌, ◌++◌, length}
 use Prim.{Unit}
 use Rattle.std.proofs.Math.Option.{Option, none, some}
+use Rattle.rules.specs.declared.Service.{Service}
+use Rattle.rules.specs.declared.Service.TheVariants.{Water}
 use Rattle.rules.specs.declared.Header.{Header}
 use Rattle.rules.specs.declared.Band.{Band}
 use Rattle.rules.specs.declared.PointHead.{PointHead}
@@ -28,8 +30,8 @@ pub data Record : Type 0 where
   band : Option Band → Band → Record
   point : Option PointHead → PointHead → Record
   transfer : ℕ → Option Transfer → Transfer → Record
-  condition : ℕ → Option Condition → Condition → Record
-  meter : ℕ → MeterHead → Record
+  condition : Service → Option Condition → Condition → Record
+  meter : Service → MeterHead → Record
   read : MeterHead → Option Read → Read → Record
 
 -- each of a list, beside the one before it
@@ -38,12 +40,12 @@ in_turn make before [] = []
 in_turn make before (a ∷ rest) = make before a ∷ in_turn make (some a) rest
 
 -- each meter is followed by its reads
-unfoldable pub meter_records : ℕ → List Meter → List Record
+unfoldable pub meter_records : Service → List Meter → List Record
 meter_records service [] = []
 meter_records service (m ∷ ms) = meter service (meter_head m) ∷ in_turn (read (meter_head m)) none m.reads ++ meter_records service ms
 
 -- each point by its transfers, conditions and meters
-unfoldable pub point_records : ℕ → Option PointHead → List Point → List Record
+unfoldable pub point_records : Service → Option PointHead → List Point → List Record
 point_records service before [] = []
 point_records service before (p ∷ ps) =
     point before (point_head p)
@@ -88,8 +90,8 @@ abbrev pub Between : ℕ → ℕ → ℕ → Type 0
 Between low high x = (low ≤ x) × (x ≤ high)
 
 -- "0 in a water file"
-abbrev pub DryInWater : ℕ → ℕ → ℕ → Type 0
-DryInWater service property roads = service ≡ 0 → (property ≡ 0) × (roads ≡ 0)
+abbrev pub DryInWater : {A : Type 0} → A → Service → A → A → Type 0
+DryInWater nothing service property roads = service ≡ Water → (property ≡ nothing) × (roads ≡ nothing)
 
 abbrev pub HeaderInRange : Form → Header → Type 0
 HeaderInRange form h =
@@ -98,7 +100,7 @@ HeaderInRange form h =
     × Between 1 form.most_points h.points
     × (h.property ≤ 10000)
     × (h.roads ≤ 10000)
-    × DryInWater h.service h.property h.roads
+    × DryInWater 0 h.service h.property h.roads
     × (h.capacity ≤ 100000)
     × (h.standard ≤ 100000)
 
@@ -111,16 +113,16 @@ PointInRange p = IsDay p.connected × Between 1 24 p.transfers × (p.conditions 
 abbrev pub TransferInRange : Transfer → Type 0
 TransferInRange t = IsDay t.day × (1 ≤ t.provider)
 
-abbrev pub ConditionInRange : ℕ → Condition → Type 0
+abbrev pub ConditionInRange : Service → Condition → Type 0
 ConditionInRange service c =
-    IsDay c.day × DryInWater service c.property c.roads × (c.schedule3 ≤ 10000) × (c.section29e ≤ 10000) × (c.rateable ≤ 10000000)
+    IsDay c.day × DryInWater false service c.property c.roads × (c.schedule3 ≤ 10000) × (c.section29e ≤ 10000) × (c.rateable ≤ 10000000)
 
 -- "return is 100 in a water file"
-abbrev pub MeterInRange : ℕ → MeterHead → Type 0
+abbrev pub MeterInRange : Service → MeterHead → Type 0
 MeterInRange service m =
     (m.share ≤ 100)
     × (m.returned ≤ 100)
-    × (service ≡ 0 → m.returned ≡ 100)
+    × (service ≡ Water → m.returned ≡ 100)
     × Between 4 8 m.digits
     × IsDay m.installed
     × (m.reads ≤ 40)
@@ -141,8 +143,8 @@ FromConnection connected (some before) t = Unit {0}
 
 -- rollover is not set on a first read, and on another exactly when the value falls
 abbrev pub Turned : Option Read → Read → Type 0
-Turned none r = r.rollover ≡ 0
-Turned (some before) r = (r.value < before.value → r.rollover ≡ 1) × (before.value ≤ r.value → r.rollover ≡ 0)
+Turned none r = r.rollover ≡ false
+Turned (some before) r = (r.value < before.value → r.rollover ≡ true) × (before.value ≤ r.value → r.rollover ≡ false)
 
 -- at most 3,660 days between reads
 abbrev pub SoonAfter : Option Read → Read → Type 0

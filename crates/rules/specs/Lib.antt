@@ -7,6 +7,7 @@ pub mod File
 pub mod Litres
 pub mod Charges
 pub mod Settlement
+pub mod Numbered
 pub mod Lawful
 pub mod Refusal
 pub mod Text
@@ -16,3 +17,4 @@ pub mod Promises
 pub mod Good
 pub mod Fits
 pub mod Examples
+pub mod Once

@@ -1,170 +1,126 @@
 #![tactic(auto)]
-// The charged days of a supply point by spans: days that stand side by side and have one provider and one condition. A span's numbers stand in a
-// lent array, eight for each: the entry before which it ends, its provider, its condition by groups, and four sums over its days. What some days
-// have is added to the spans that they meet, so that nothing is kept or done for each day.
-ghost use Rattle.std.specs.Prelude.{◌≡◌, ◌+◌, ◌*◌, ◌≤◌, ◌<◌, ◌^◌, min, length};
-ghost use Rattle.spans.specs.Spans.{number_in, NumberSet, end_in, Cut, Reached, Holds, span_in, SpanSet, SumsAdded, figure_of, litres_of, RoomAt, during, Grown, Room};
+// The charged days of a supply point by spans: days that stand side by side and have one provider and one condition. A point's spans stand in a lent
+// vector, each with the entry before which it ends, its provider, its condition by groups, and four sums over its days. What some days have is added
+// to the spans that they meet, so that nothing is kept or done for each day.
+ghost use Rattle.std.specs.Prelude.{◌≡◌, ℕ, ◌+◌, ◌*◌, ◌<◌, ◌≤◌, ◌^◌, length};
+ghost use Rattle.spans.specs.Spans.{Sums, Times, begin_in, Cut, Reached, Holds, SpanAdded, SumsAdded, figure_of, litres_of, RoomAt, during, Grown, Room};
 
+use arrayvec::ArrayVec;
 use records::Groups;
+use std::ops::{Add, Mul};
 
-// The numbers of a span, and how many there are.
-const NUMBERS: usize = 8;
+// A point has at most 24 transfers and 48 conditions, and so at most as many spans.
+pub const MOST_SPANS: usize = 72;
 
-const END: usize = 0;
-
-const PROVIDER: usize = 1;
-
-const STATE: usize = 2;
-
-const RATEABLE: usize = 3;
-
-const LITRES: usize = 4;
-
-const ANNUAL: usize = 5;
-
-const ALLOWANCE: usize = 6;
-
-const THRESHOLD: usize = 7;
-
-// A point's charged days, so many from `start` on, which are cut into so many spans. The number of a day, from 0 on, is its entry.
-#[derive(Drop)]
-pub struct SpanDays {
-    pub start: u64,
-    pub count: usize,
-    pub spans: usize,
-}
-
-// What each of some days has of meters: annual charge, allowance and threshold × share.
-#[derive(Drop)]
+// What each of some days has of meters, or all of them together: annual charge, allowance and threshold × share.
+#[derive(Clone, Copy, Default)]
 pub struct Figures {
     pub annual: u64,
     pub allowance: u64,
     pub threshold: u64,
 }
 
-// A span by value.
-#[derive(Drop)]
+// Each is added to its own.
+impl Add for Figures {
+    type Output = Figures;
+
+    ghost can_add = { λ x y. (x.annual + y.annual < 2 ^ 64) × (x.allowance + y.allowance < 2 ^ 64) × (x.threshold + y.threshold < 2 ^ 64) };
+
+    ghost add_gives = { Sums };
+
+    fn add(self, more: Figures) -> Figures {
+        Figures {
+            annual: self.annual + more.annual,
+            allowance: self.allowance + more.allowance,
+            threshold: self.threshold + more.threshold,
+        }
+    }
+}
+
+// So many times each.
+impl Mul<u64> for Figures {
+    type Output = Figures;
+
+    ghost can_mul = { λ x n. (x.annual * n < 2 ^ 64) × (x.allowance * n < 2 ^ 64) × (x.threshold * n < 2 ^ 64) };
+
+    ghost mul_gives = { Times };
+
+    fn mul(self, times: u64) -> Figures {
+        Figures {
+            annual: self.annual * times,
+            allowance: self.allowance * times,
+            threshold: self.threshold * times,
+        }
+    }
+}
+
+// Days that stand side by side and have one provider and one condition: the entry before which they end, and what all of them have together.
+#[derive(Clone, Copy, Default)]
 pub struct Span {
     pub end: usize,
     pub provider: u64,
     pub groups: Groups,
     pub litres: u64,
-    pub annual: u64,
-    pub allowance: u64,
-    pub threshold: u64,
+    pub figures: Figures,
 }
 
-// The earlier of two entries.
-pub fn earlier(a: usize, b: usize) -> usize
-    ensures { result ≡ min a b }
+// One more span, which ends before an entry, and has a provider and a condition; its sums are 0.
+pub fn add_span(spans: &mut ArrayVec<Span, MOST_SPANS>, end: usize, provider: u64, groups: Groups)
+    requires { length spans.old.items < 72 }
+    ensures { SpanAdded spans.old.items spans.new.items end provider groups }
 {
-    if a < b { a } else { b }
-}
-
-// The span at a place.
-pub fn span_at(spans: &[u64], s: usize) -> Span
-    requires { s * 8 + 8 ≤ length spans.now }
-    ensures { result ≡ span_in spans.now s }
-{
-    let first = s * NUMBERS;
-    let groups = Groups {
-        state: spans[first + STATE],
-        rateable: spans[first + RATEABLE],
-    };
-    Span {
-        end: spans[first + END] as usize,
-        provider: spans[first + PROVIDER],
+    spans.push(Span {
+        end,
+        provider,
         groups,
-        litres: spans[first + LITRES],
-        annual: spans[first + ANNUAL],
-        allowance: spans[first + ALLOWANCE],
-        threshold: spans[first + THRESHOLD],
-    }
-}
-
-// A number of the span at a place becomes a value.
-fn set_number(spans: &mut [u64], s: usize, k: usize, value: u64)
-    requires { (k < 8) × (s * 8 + 8 ≤ length spans.old) }
-    ensures { NumberSet spans.old spans.new s k value }
-{
-    spans[s * NUMBERS + k] = value;
-}
-
-// A number of the span at a place becomes more.
-fn add_number(spans: &mut [u64], s: usize, k: usize, more: u64)
-    requires { (k < 8) × (s * 8 + 8 ≤ length spans.old) × (number_in spans.old s k + more < 2 ^ 64) }
-    ensures { NumberSet spans.old spans.new s k (number_in spans.old s k + more) }
-{
-    let at = s * NUMBERS + k;
-    spans[at] = spans[at] + more;
-}
-
-// The span at a place ends before an entry, and has a provider and a condition; its sums are 0.
-pub fn set_span(spans: &mut [u64], s: usize, end: usize, provider: u64, groups: Groups)
-    requires { s * 8 + 8 ≤ length spans.old }
-    ensures { SpanSet spans.old spans.new s end provider groups }
-{
-    set_number(spans, s, END, end as u64);
-    set_number(spans, s, PROVIDER, provider);
-    set_number(spans, s, STATE, groups.state);
-    set_number(spans, s, RATEABLE, groups.rateable);
-    set_number(spans, s, LITRES, 0);
-    set_number(spans, s, ANNUAL, 0);
-    set_number(spans, s, ALLOWANCE, 0);
-    set_number(spans, s, THRESHOLD, 0);
-}
-
-// The entry before which a span ends.
-pub fn span_end(spans: &[u64], s: usize) -> usize
-    requires { s * 8 + 8 ≤ length spans.now }
-    ensures { result ≡ end_in spans.now s }
-{
-    spans[s * NUMBERS + END] as usize
+        ..Span::default()
+    });
 }
 
 // The span that holds the day of an entry, from one on that does not begin after it.
-pub fn span_with(spans: &[u64], days: SpanDays, from: usize, i: usize) -> usize
-    requires { Cut spans.now days.count days.spans × Reached spans.now days.spans «from» i × (i < days.count) }
-    ensures { Holds spans.now days.spans i result }
+#[tactic(auto, unfolding(crate::specs::Spans::span_in))]
+pub fn span_with(spans: &[Span], from: usize, i: usize) -> usize
+    requires { Reached spans.now (length spans.now) «from» i × (i < begin_in spans.now (length spans.now)) }
+    ensures { Holds spans.now (length spans.now) i result }
 {
     let mut s = from;
-    let mut end = span_end(spans, s);
-    while end <= i {
+    // A `while`: it starts at a place that is known and mostly ends there, where `position` would start a search and owe that it finds one.
+    while spans[s].end <= i {
         s += 1;
-        end = span_end(spans, s);
     }
     s
 }
 
 // A span's litres become more.
-pub fn add_litres(spans: &mut [u64], s: usize, litres: u64)
+pub fn add_litres(spans: &mut [Span], s: usize, litres: u64)
     requires { RoomAt spans.old s (litres_of litres) }
     ensures { SumsAdded spans.old spans.new s (litres_of litres) }
 {
-    add_number(spans, s, LITRES, litres);
+    spans[s].litres += litres;
 }
 
 // So many of a span's days have more of meters.
-fn add_each(spans: &mut [u64], s: usize, days: u64, each: Figures)
+fn add_each(spans: &mut [Span], s: usize, days: u64, each: Figures)
     requires { RoomAt spans.old s (λ q. figure_of each q * days) }
     ensures { SumsAdded spans.old spans.new s (λ q. figure_of each q * days) }
 {
-    add_number(spans, s, ANNUAL, each.annual * days);
-    add_number(spans, s, ALLOWANCE, each.allowance * days);
-    add_number(spans, s, THRESHOLD, each.threshold * days);
+    let span = &mut spans[s];
+    span.figures = span.figures + each * days;
 }
 
 // The days of the entries from one on, before another, have more of meters.
-pub fn add_figures(spans: &mut [u64], days: SpanDays, from: usize, to: usize, each: Figures)
-    requires cut { Cut spans.old days.count days.spans × (to ≤ days.count) }
-    requires room { Room spans.old days.spans (λ q. during «from» to (λ i. figure_of each q)) }
-    ensures { Grown spans.old spans.new days.spans (λ q. during «from» to (λ i. figure_of each q)) }
+#[tactic(auto, unfolding(crate::specs::Spans::span_in))]
+pub fn add_figures(spans: &mut [Span], from: usize, to: usize, each: Figures)
+    requires cut { (n : ℕ) × Cut spans.old n (length spans.old) × (to ≤ n) }
+    requires room { Room spans.old (length spans.old) (λ q. during «from» to (λ i. figure_of each q)) }
+    ensures { Grown spans.old spans.new (length spans.old) (λ q. during «from» to (λ i. figure_of each q)) }
 {
     let mut i = from;
     let mut s: usize = 0;
+    // A `while`: it steps from cut to cut.
     while i < to {
-        s = span_with(spans, days, s, i);
-        let stop = earlier(span_end(spans, s), to);
+        s = span_with(spans, s, i);
+        let stop = spans[s].end.min(to);
         add_each(spans, s, (stop - i) as u64, each);
         i = stop;
     }

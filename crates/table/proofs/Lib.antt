@@ -1,12 +1,3 @@
 pub mod Laws
 pub mod Run
 pub mod Taken
-pub mod AddAllKinds
-pub mod AddAllReads
-pub mod AddKinds
-pub mod AddReads
-pub mod ClearKinds
-pub mod ClearReads
-pub mod RowKind
-pub mod RowsIntoKinds
-pub mod RowsIntoReads

@@ -1,90 +1,53 @@
 #![tactic(auto)]
-// Text and numbers. A writer (`put_..`) puts its text into a lent space from a position on, and hands back the position after it. It asks that the
-// space holds the text. A length (`.._length`) has a limit, by which sums of lengths fit a usize.
-ghost use Rattle.std.specs.Prelude.{◌++◌, ◌+◌, ◌≤◌, ◌<◌, length};
+// Text and numbers, put one after another into whatever takes them: into a lent space, or into a count of bytes, so that a text is said once and its
+// length is had of the same code.
+ghost use Rattle.std.specs.Prelude.{ℕ, ◌++◌, ◌+◌, ◌≤◌, List, length};
 ghost use Rattle.rules.specs.Text.{decimal};
-ghost use Rattle.text.specs.Written.{Put, Long, two_digits, single};
+ghost use Rattle.text.specs.Written.{Taken, single};
 
-pub fn put_text(space: &mut [u8], at: usize, text: &[u8]) -> usize
-    requires { at + length text.now ≤ length space.old }
-    ensures { Put space.old at text.now space.new result }
-{
-    let mut j: usize = 0;
-    while j < text.len() {
-        space[at + j] = text[j];
-        j += 1;
+mod count;
+mod space;
+
+pub use count::Count;
+pub use space::Space;
+
+// What takes texts. It asks that it has room for them.
+pub trait Sink {
+    // How far it is, and how far it goes.
+    ghost at: { Self → ℕ };
+
+    ghost end: { Self → ℕ };
+
+    // What it was, a text, and what it is once the text is put into it.
+    ghost takes: { Self → List ℕ → Self → Type 0 };
+
+    fn text(&mut self, text: &[u8])
+        requires { at self.old + length text.now ≤ end self.old }
+        ensures { Taken at end takes self.old text.now self.new };
+
+    fn number(&mut self, n: u64)
+        requires { at self.old + length (decimal n) ≤ end self.old }
+        ensures { Taken at end takes self.old (decimal n) self.new };
+
+    // Two texts one after another are one text.
+    ghost goes_on: { (a b c : Self) (s t : List ℕ) → takes a s b → takes b t c → takes a (s ++ t) c };
+
+    // A label and a number.
+    final fn field(&mut self, label: &[u8], n: u64)
+        requires { at self.old + length label.now + length (decimal n) ≤ end self.old }
+        ensures { Taken at end takes self.old (label.now ++ decimal n) self.new }
+    {
+        self.text(label);
+        self.number(n);
     }
-    at + j
-}
 
-// The two digits of a number below 100, which is a byte, so that the divisions are of 8 bits.
-fn put_two(space: &mut [u8], at: usize, two: u8) -> usize
-    requires { at + 2 ≤ length space.old }
-    ensures { Put space.old at (two_digits two) space.new result }
-{
-    space[at] = b'0' + two / 10;
-    space[at + 1] = b'0' + two % 10;
-    at + 2
-}
-
-// A number below 100, of one digit or two.
-fn put_few(space: &mut [u8], at: usize, n: u8) -> usize
-    requires { (n < 100) × (at + length (decimal n) ≤ length space.old) }
-    ensures { Put space.old at (decimal n) space.new result }
-{
-    if n < 10 {
-        space[at] = b'0' + n;
-        return at + 1;
+    // A line that has a label, a number and no more.
+    #[tactic(auto, using(crate::specs::Puts::sizes), unfolding(crate::specs::Written::single, rules::specs::Text::text))]
+    final fn single(&mut self, label: &[u8], n: u64)
+        requires { at self.old + length (single label.now n) ≤ end self.old }
+        ensures { Taken at end takes self.old (single label.now n) self.new }
+    {
+        self.field(label, n);
+        self.text(b",,\n");
     }
-    put_two(space, at, n)
-}
-
-// The most significant digit comes first, so what stands before the last four digits is written before them. Four at a time: a quarter of the
-// calls. The four are taken as one small number before the call: one long division gives it and the number for the call.
-fn put_number(space: &mut [u8], at: usize, n: u64) -> usize
-    requires { at + length (decimal n) ≤ length space.old }
-    ensures { Put space.old at (decimal n) space.new result }
-{
-    if n < 100 {
-        return put_few(space, at, n as u8);
-    }
-    if n < 10000 {
-        let next = put_few(space, at, (n / 100) as u8);
-        return put_two(space, next, (n % 100) as u8);
-    }
-    let four = (n % 10000) as u32;
-    let next = put_number(space, at, n / 10000);
-    let more = put_two(space, next, (four / 100) as u8);
-    put_two(space, more, (four % 100) as u8)
-}
-
-// A label and a number.
-pub fn put_field(space: &mut [u8], at: usize, label: &[u8], n: u64) -> usize
-    requires { at + length label.now + length (decimal n) ≤ length space.old }
-    ensures { Put space.old at (label.now ++ decimal n) space.new result }
-{
-    let at = put_text(space, at, label);
-    put_number(space, at, n)
-}
-
-// A line that has a label, a number and no more.
-pub fn put_single(space: &mut [u8], at: usize, label: &[u8], n: u64) -> usize
-    requires { at + length (single label.now n) ≤ length space.old }
-    ensures { Put space.old at (single label.now n) space.new result }
-{
-    let at = put_field(space, at, label, n);
-    put_text(space, at, b",,\n")
-}
-
-// How many digits a number has: two for each time it is divided by 100, and the one or two that are left.
-pub fn number_length(n: u64) -> usize
-    ensures { Long (decimal n) 20 result }
-{
-    let mut left = n;
-    let mut count: usize = 1;
-    while 100 <= left {
-        left = left / 100;
-        count += 2;
-    }
-    if left < 10 { count } else { count + 1 }
 }

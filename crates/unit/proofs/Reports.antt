@@ -1,46 +1,79 @@
--- The report service's answer by the refusal of the file, and the report of an accepted file by its rows. Assumes nothing.
-use Prim.Native.Nat.{ℕ, zero, suc}
-use mathlib.Core.Path.{◌≡◌, refl, sym, ap, ap₂, ◌∙◌, subst}
-use mathlib.Core.List.{List}
-use lib.ListN.{length, take, drop}
-use lib.Seq.{take_at}
+-- What was written is within the space; and an accepted file's rows, what a report asks of them, and its report. Assumes nothing.
+use Prim.Native.Nat.{ℕ, suc, ◌^◌, ◌≤◌, ◌<◌}
+use native.Mathlib.Omega.{arith}
+use mathlib.Core.Path.{◌≡◌, sym, ap, ◌∙◌}
+use mathlib.Core.List.{List, [], ◌∷◌, ◌++◌, append-nil}
+use Prim.{tt}
+use Rattle.std.specs.Prelude.{Result, Ok, Err, IfOk, map}
+use lib.ListN.{length, length-map, length-append, get_or, take, drop}
+use Rattle.std.proofs.lemmas.List.{drop_all, length-take}
 use Rattle.rules.specs.declared.Header.{Header}
+use Rattle.rules.specs.declared.Breach.{Breach}
+use Rattle.rules.specs.Numbered.{refusal_of, one_number}
 use Rattle.rules.specs.declared.Row.{Row}
-use Rattle.rules.specs.File.{header_at, decode}
-use Rattle.rules.specs.Refusal.{refusal}
+use Rattle.rules.specs.File.{Tariff, Point, File, decode}
+use Rattle.rules.specs.Lists.{All}
+use Rattle.rules.specs.Refusal.{first_or}
 use Rattle.rules.specs.Settlement.{rows, row_and, clear_row, providers_of}
 use Rattle.rules.specs.Report.{report_of, report}
-use Rattle.rules.specs.Services.{written, report_number, report_answer, report_after}
+use Rattle.rules.specs.Services.{written, room_number, length_or, space_after}
+use Rattle.rules.specs.Good.{Good}
+use Rattle.report.specs.Once.{Numbers}
 use Rattle.rules.specs.Fits.{Fits, AllFit}
 use Rattle.rules.proofs.Lists.{all_map}
-use Rattle.rules.proofs.Kept.{accepted_good}
+use Rattle.rules.proofs.Kept.{row_provider}
+use Rattle.providers.specs.declared.Accepted.{Accepted}
+use Rattle.records.proofs.Walk.{year_to_lem}
 use Rattle.settle.proofs.Rows.{rows_fit}
-use Rattle.unit.proofs.Refused.{first_refused}
 
-module _ (b : List ℕ) where
-  refused_number : (n room : ℕ) → n ≡ refusal b → (n ≡ 0 → ⊥) → report_number b room ≡ n
-  unfolding report_number
-  refused_number n room e h = first_refused (refusal b) n _ e h
+numbered : (tariff : Tariff) (points : List Point) (list : List ℕ) → ((i : ℕ) → get_or list i 0 < 2 ^ 64) → All (λ row. row.provider < 2 ^ 64) (map (λ p. row_and tariff (clear_row p) points) list)
+unfolding clear_row
+numbered tariff points [] fits = tt
+numbered tariff points (p ∷ ps) fits = (rw (row_provider tariff points (clear_row p)) (fits 0), numbered tariff points ps (λ i. fits (suc i)))
 
-  pub refused_answer : (n room : ℕ) → n ≡ refusal b → (n ≡ 0 → ⊥) → n ≡ report_answer b room
-  unfolding report_answer
-  refused_answer n room e h = sym (first_refused (report_number b room) n _ (sym (refused_number n room e h)) h)
+-- a text's length is within the space that it was written into
+pub within : (text : List ℕ) (r : Result ℕ Breach) (space exit : List ℕ) → one_number r ≡ length_or (length space) text → refusal_of r ≡ room_number (length space) (length text) → exit ≡ space_after text space →
+    IfOk r (λ n. n ≤ length exit)
+unfolding length_or space_after first_or written
+within text (Ok n) space exit a r x =
+    let all = sym r in
+    omega (arith, rw all at a, ap length (rw all at x), length-append text (drop (length text) space))
+within text (Err breach) space exit a r x = tt
 
-  pub refused_after : (n : ℕ) (space : List ℕ) → n ≡ refusal b → (n ≡ 0 → ⊥) → space ≡ report_after b space
-  unfolding report_after written
-  refused_after zero space e h = absurd (h refl)
-  refused_after (suc n) space e h = sym (rw (refused_number (suc n) (length space) e h, written))
+-- an accepted file's rows
+module _ (accepted : Accepted) where
+  abbrev b : List ℕ
+  b = accepted.file.bytes.now
 
-  -- a table whose first rows became the file's, whatever it was lent with
-  module _ {count : ℕ} (lent : List Row) {t : List Row} (e : refusal b ≡ 0) (r : (length (rows (decode b)) ≡ count) × (t ≡ written 0 (rows (decode b)) lent)) where
-    first_rows : take count t ≡ rows (decode b)
-    unfolding written
-    first_rows = ap (take count) r.1 ∙ take_at (rows (decode b)) (drop (length (rows (decode b))) lent) count r.0
+  abbrev file : File
+  file = decode b
 
-    pub rows_all_fit : AllFit (take count t)
-    unfolding rows
-    rows_all_fit = subst AllFit (sym first_rows) (all_map Fits (λ p. row_and (decode b).tariff (clear_row p) (decode b).points) (rows_fit b (accepted_good b e)) (providers_of (decode b).tariff (decode b).points))
+  good : Good b
+  good = accepted.file.good
 
-    pub report_is : {head : Header} → head ≡ header_at b → report_of head.service head.year (take count t) ≡ report (decode b)
-    unfolding report decode
-    report_is h = ap₂ (λ (head : Header) rows. report_of head.service head.year rows) h first_rows
+  -- there is a row for each provider
+  pub sized_rows : length (rows file) ≡ length accepted.list.items
+  unfolding rows
+  sized_rows = length-map (providers_of file.tariff file.points) (λ p. row_and file.tariff (clear_row p) file.points) ∙ sym (ap length accepted.providers.is)
+
+  pub few_rows : length (rows file) ≤ 64
+  few_rows = omega (arith, sized_rows, accepted.providers.few)
+
+  pub rows_all_fit : AllFit (rows file)
+  unfolding rows
+  rows_all_fit = all_map Fits (λ p. row_and file.tariff (clear_row p) file.points) (rows_fit b good) (providers_of file.tariff file.points)
+
+  -- each row's provider is one of the file's, which fit
+  pub rows_numbered : ((i : ℕ) → get_or accepted.list.items i 0 < 2 ^ 64) → Numbers accepted.file.head.year (rows file)
+  unfolding rows
+  rows_numbered fits =
+      (omega (arith, year_to_lem b good (accepted.file.header, accepted.file.listed.0)), numbered file.tariff file.points (providers_of file.tariff file.points) (rw accepted.providers.is at fits))
+
+  pub report_is : report file ≡ report_of accepted.file.head.service accepted.file.head.year (rows file)
+  unfolding report decode
+  report_is = ap (λ (head : Header). report_of head.service head.year (rows file)) (sym accepted.file.header)
+
+-- a table of no more entries than the rows becomes the rows alone
+pub only_rows : (n : ℕ) (xs table : List Row) → n ≤ length xs → written 0 xs (take n table) ≡ xs
+unfolding written
+only_rows n xs table h = ap (λ rest. xs ++ rest) (drop_all (length xs) (take n table) (omega (arith, length-take n table))) ∙ append-nil xs

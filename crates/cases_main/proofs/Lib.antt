@@ -1,2 +1,0 @@
-pub mod PrintRowsKinds
-pub mod PrintRowsReads

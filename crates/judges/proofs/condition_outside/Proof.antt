@@ -1,7 +1,0 @@
--- `judges::condition_outside` meets its contract: its tests are those of the rule, in the same order. Assumes nothing.
-use mathlib.Core.Path.{refl}
-use Rattle.judges.proofs.condition_outside.Statement.{statement}
-use Rattle.judges.proofs.condition_outside.Tie as tie
-
-pub condition_outside_spec : {M : Type 1} → statement M
-condition_outside_spec = tie.close (tie.spec (λ c. refl))

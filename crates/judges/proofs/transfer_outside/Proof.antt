@@ -1,7 +1,0 @@
--- `judges::transfer_outside` meets its contract: its tests are those of the rule, in the same order. Assumes nothing.
-use mathlib.Core.Path.{refl}
-use Rattle.judges.proofs.transfer_outside.Statement.{statement}
-use Rattle.judges.proofs.transfer_outside.Tie as tie
-
-pub transfer_outside_spec : {M : Type 1} → statement M
-transfer_outside_spec = tie.close (tie.spec (λ c. refl))
