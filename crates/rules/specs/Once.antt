@@ -12,7 +12,7 @@ use Rattle.rules.specs.Lists.{All, Ascending}
 use Rattle.rules.specs.File.{Meter, Point, meter_head, decode}
 use Rattle.rules.specs.Good.{GoodBand, GoodTransfer, GoodCondition, GoodRead, GoodAdvance, GoodAdvances, FirstBy, Undrained, GoodMeter, GoodPoint, Good}
 
-all_once : {A : Type 0} {P : A → Type 0} → ((x : A) → IsProp (P x)) → (xs : List A) → IsProp (All P xs)
+pub all_once : {A : Type 0} {P : A → Type 0} → ((x : A) → IsProp (P x)) → (xs : List A) → IsProp (All P xs)
 all_once one [] = Unit-prop
 all_once one (x ∷ xs) = ×_prop (one x) (all_once one xs)
 
