@@ -18,7 +18,7 @@ use Rattle.rules.specs.Lists.{Ascending, latest}
 use Rattle.rules.specs.File.{records, band_at, bands, after_band, after_bands}
 use Rattle.rules.specs.Charges.{first_band, band_for}
 use Rattle.rules.proofs.Lists.{there}
-use Rattle.records.proofs.Positions.{records_wide}
+use Rattle.rules.proofs.Positions.{records_wide}
 use Rattle.records.proofs.Ahead.{read_one}
 use Rattle.bands.specs.Bands.{SizesOf}
 

@@ -11,7 +11,7 @@ use Rattle.rules.specs.declared.Transfer.{Transfer}
 use Rattle.rules.specs.Lists.{latest}
 use Rattle.rules.specs.File.{transfer_at, after_transfer, transfers, condition_at, after_condition, conditions}
 use Rattle.rules.specs.Charges.{no_condition}
-use Rattle.records.proofs.Positions.{forward}
+use Rattle.rules.proofs.Positions.{forward}
 use Rattle.records.specs.Conditions.{condition_of}
 use Rattle.records.specs.declared.Groups.{Groups}
 use Rattle.providers.specs.Runs.{SoundTransfers, Reading}

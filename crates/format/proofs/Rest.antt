@@ -19,7 +19,7 @@ use Rattle.rules.specs.declared.MeterHead.{MeterHead}
 use Rattle.rules.specs.declared.Read.{Read}
 use Rattle.rules.specs.Calendar.{no_day}
 use Rattle.rules.specs.File.{records, after, header_at, band_at, point_head_at, transfer_at, condition_at, meter_head_at, read_at, meter_at, point_at, decode, bands_at, after_band, transfers_from, after_transfer, after_condition, reads_from, after_read, after_meter, after_point}
-use Rattle.records.proofs.Positions.{length_records}
+use Rattle.rules.proofs.Positions.{length_records}
 use Rattle.rules.specs.Refusal.{header_rule, band_rule, point_rule, transfer_rule, condition_rule, meter_rule, read_rule, band_numbers, transfer_numbers, condition_numbers, read_numbers, meter_numbers, point_numbers, file_numbers, padding_number, first_or, file_refusal}
 
 -- the end of a file, in bits

@@ -14,7 +14,7 @@ use Rattle.rules.specs.Litres.{dial_values, litres_per_count, advance, carried_b
 use Rattle.rules.specs.Good.{GoodMeterHead, GoodRead, GoodAdvance, GoodAdvances, GoodMeter}
 use Rattle.rules.proofs.Shares.{div_mono, days_none}
 use Rattle.rules.proofs.Sums.{days_shift}
-use Rattle.records.proofs.Positions.{length_records}
+use Rattle.rules.proofs.Positions.{length_records}
 use Rattle.records.proofs.Ahead.{Ahead, read_one, read_past, ahead_done}
 use Rattle.spans.specs.declared.Span.{Span}
 use Rattle.spans.specs.Spans.{end_in, Cut, Reached, Holds, SumsAdded, RoomAt, Sum, litres_sum, annual_sum, allowance_sum, threshold_sum, litres_of, during, Grown, Room}

@@ -15,7 +15,7 @@ use Rattle.rules.specs.Settlement.{provider_on}
 use Rattle.rules.specs.File.{Point, records, transfer_at, after_transfer, transfers}
 use Rattle.rules.specs.Good.{FirstBy}
 use Rattle.rules.proofs.Lists.{ascending_lower, latest_here, latest_ahead}
-use Rattle.records.proofs.Positions.{forward}
+use Rattle.rules.proofs.Positions.{forward}
 use Rattle.records.proofs.Ahead.{read_one, read_past}
 use Rattle.charged.specs.Charged.{first_entry}
 use Rattle.providers.specs.Runs.{SoundTransfers, Walk, Reading}

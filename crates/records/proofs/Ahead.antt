@@ -4,7 +4,7 @@ use mathlib.Core.Path.{◌≡◌, sym, ap, ◌∙◌, subst}
 use mathlib.Core.List.{List, [], ◌∷◌}
 use native.Mathlib.Omega.{arith}
 use Rattle.rules.specs.File.{records, after}
-use Rattle.records.proofs.Positions.{forward}
+use Rattle.rules.proofs.Positions.{forward}
 
 -- ANY LIST of records: `left` of them are left from the position `at` on and end at `end`, and K holds of them
 pub record Ahead {A : Type 0} (here : ℕ → A) (next : ℕ → A → ℕ) (left at end : ℕ) (K : List A → Type 0) : Type 0 where

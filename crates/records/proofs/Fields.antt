@@ -1,6 +1,6 @@
 -- A record from what its fields are, on plain variables, where `cc` is quick: what the readers' proofs cite. Assumes nothing.
 use Prim.Native.Nat.{ℕ, ◌+◌, ◌-◌, ◌/◌, ◌%◌, ◌^◌, ◌≤◌}
-use mathlib.Core.Path.{◌≡◌, refl, ◌∙◌, ap}
+use mathlib.Core.Path.{◌≡◌, refl, sym, ◌∙◌, ap}
 use mathlib.Core.List.{List}
 use native.Mathlib.Omega.{arith}
 use lib.Dec.{eqb}
@@ -9,6 +9,8 @@ use Rattle.bits.specs.CutOut.{CutOut}
 use Rattle.rules.specs.Field.{field}
 use Rattle.rules.proofs.Fields.{field_part}
 use Rattle.rules.specs.declared.Service.{Service}
+use Rattle.rules.specs.declared.Form.{Form}
+use Rattle.rules.specs.Form.{form_of, form_at}
 use Rattle.rules.specs.declared.Header.{Header}
 use Rattle.rules.specs.declared.Band.{Band}
 use Rattle.rules.specs.declared.PointHead.{PointHead}
@@ -18,7 +20,7 @@ use Rattle.records.specs.declared.Groups.{Groups}
 use Rattle.records.specs.Conditions.{condition_of}
 use Rattle.rules.specs.declared.MeterHead.{MeterHead}
 use Rattle.rules.specs.declared.Read.{Read}
-use Rattle.rules.specs.File.{service_of, header_at, band_at, point_head_at, transfer_at, condition_at, meter_head_at, read_at, bands_at, after_band, transfers_from, after_transfer, after_condition, reads_from, after_read}
+use Rattle.rules.specs.File.{service_of, header_at, band_at, point_head_at, transfer_at, condition_at, meter_head_at, read_at, bands_from, after_band, transfers_from, after_transfer, after_condition, reads_from, after_read}
 
 -- a field that is cut out of a group: it ends `below` bits before the group does
 cut_field : {b : List ℕ} {here wide group next width below value : ℕ} (at : ℕ) → Took b here wide group next → CutOut group width below value
@@ -30,22 +32,26 @@ cut_field {b} {here} {wide} {group} {next} {width} {below} at t p l e =
     parts : wide ≡ at - here + width + below
     parts = omega (arith, t.after)
 
-pub header_taken : {b : List ℕ} {mark version bit year bands points property roads capacity standard opening prices rates a1 a2 a3 : ℕ} {service : Service}
-    → Took b 0 45 opening a1 → Took b a1 28 prices a2 → Took b a2 34 rates a3
-    → CutOut opening 16 29 mark → CutOut opening 4 25 version → CutOut opening 1 24 bit → service ≡ service_of bit → CutOut opening 12 12 year → CutOut opening 5 7 bands → CutOut opening 7 0 points → CutOut prices 14 14 property → CutOut prices 14 0 roads → CutOut rates 17 17 capacity → CutOut rates 17 0 standard
-    → (◌≡◌ {A = Header} (record { mark = mark; version = version; service = service; year = year; bands = bands; points = points; property = property; roads = roads; capacity = capacity; standard = standard }) (header_at b)) × (a3 ≡ bands_at)
-header_taken t1 t2 t3 c1 c2 c3 e c4 c5 c6 c7 c8 c9 c10 =
-    let s1 = cut_field 0 t1 c1 (omega arith) (omega arith) in
-    let s2 = cut_field 16 t1 c2 (omega arith) (omega arith) in
+-- the header, whose count of points was taken by the width of its version's form
+pub header_taken : {b : List ℕ} {mark version bit year bands points property roads capacity standard opening prices rates a1 a2 a3 a4 : ℕ} {service : Service} {form : Form}
+    → form ≡ form_of version
+    → Took b 0 38 opening a1 → Took b a1 form.count_bits points a2 → Took b a2 28 prices a3 → Took b a3 34 rates a4
+    → CutOut opening 4 18 version → CutOut opening 16 22 mark → CutOut opening 1 17 bit → service ≡ service_of bit → CutOut opening 12 5 year → CutOut opening 5 0 bands → CutOut prices 14 14 property → CutOut prices 14 0 roads → CutOut rates 17 17 capacity → CutOut rates 17 0 standard
+    → (◌≡◌ {A = Header} (record { mark = mark; version = version; service = service; year = year; bands = bands; points = points; property = property; roads = roads; capacity = capacity; standard = standard }) (header_at b)) × (a4 ≡ bands_from b)
+header_taken {b} {form = form} f t1 t2 t3 t4 c1 c2 c3 e c4 c5 c6 c7 c8 c9 =
+    let wide = form.count_bits in
+    let s1 = cut_field 16 t1 c1 (omega arith) (omega arith) in
+    let s2 = cut_field 0 t1 c2 (omega arith) (omega arith) in
     let s3 = cut_field 20 t1 c3 (omega arith) (omega arith) in
     let s4 = cut_field 21 t1 c4 (omega arith) (omega arith) in
     let s5 = cut_field 33 t1 c5 (omega arith) (omega arith) in
-    let s6 = cut_field 38 t1 c6 (omega arith) (omega arith) in
-    let s7 = cut_field 45 t2 c7 (omega arith) (omega arith) in
-    let s8 = cut_field 59 t2 c8 (omega arith) (omega arith) in
-    let s9 = cut_field 73 t3 c9 (omega arith) (omega arith) in
-    let s10 = cut_field 90 t3 c10 (omega arith) (omega arith) in
-    (cc, omega arith)
+    let count = t2.is ∙ ap (λ (at : ℕ). field b at wide) t1.after in
+    let s6 = cut_field (38 + wide) t3 c6 (omega arith) (omega arith) in
+    let s7 = cut_field (38 + wide + 14) t3 c7 (omega arith) (omega arith) in
+    let s8 = cut_field (38 + wide + 28) t4 c8 (omega arith) (omega arith) in
+    let s9 = cut_field (38 + wide + 45) t4 c9 (omega arith) (omega arith) in
+    let own : form_at b ≡ form = sym (f ∙ ap form_of s1) in
+    rw own (cc, omega arith)
 
 pub band_taken : {b : List ℕ} {at size annual allowance threshold charge limits a1 a2 : ℕ}
     → Took b at 46 charge a1 → Took b a1 44 limits a2

@@ -5,10 +5,10 @@ use mathlib.Core.List.{List}
 use native.Mathlib.Omega.{arith}
 use Rattle.bits.specs.Took.{Took}
 use Rattle.rules.specs.declared.PointHead.{PointHead}
-use Rattle.rules.specs.File.{records, after, read_at, meter_head_at, meter_at, point_at, condition_at, meters, conditions, transfers, transfers_from, reads_from, after_meter, after_meters, after_conditions, after_transfers, after_point}
+use Rattle.rules.specs.File.{records, after, read_bits, read_at, meter_head_at, meter_at, point_at, condition_bits, condition_at, meters, conditions, transfers, transfers_from, reads_from, after_meter, after_meters, after_conditions, after_transfers, after_point}
 use Rattle.records.specs.declared.PointLists.{PointLists}
 use Rattle.records.specs.Lists.{ListsAt}
-use Rattle.records.proofs.Positions.{forward, meter_forward, records_wide}
+use Rattle.rules.proofs.Positions.{forward, meter_forward, records_wide}
 
 module _ (b : List ℕ) where
   pub meters_ahead : (n at : ℕ) → at ≤ after_meters at (meters b n at)
@@ -34,12 +34,12 @@ module _ (b : List ℕ) where
 
     -- past a meter and its reads, the count of which is its last field
     module _ {count next : ℕ} (fewer : ℕ) (h : left ≡ suc fewer) (t : Took b (at + 66) 6 count next) where
-      past : next + count * 44 ≡ after_meter at (meter_at b at)
+      past : next + count * read_bits ≡ after_meter at (meter_at b at)
       past =
-          ap₂ (λ (p n : ℕ). p + n * 44) {v = (meter_head_at b at).reads} (t.after ∙ omega arith) t.is
-          ∙ sym (records_wide 44 (read_at b) (meter_head_at b at).reads (reads_from at))
+          ap₂ (λ (p n : ℕ). p + n * read_bits) {v = (meter_head_at b at).reads} (t.after ∙ omega arith) t.is
+          ∙ sym (records_wide read_bits (read_at b) (meter_head_at b at).reads (reads_from at))
 
-      pub meter_past : MetersLeft fewer (next + count * 44) end
+      pub meter_past : MetersLeft fewer (next + count * read_bits) end
       meter_past = record { rest = ap (λ p. after_meters p (meters b fewer p)) past ∙ (meters_one fewer at h ∙ m.rest); small = m.small }
 
 -- A POINT'S LISTS, by where they stand
@@ -75,4 +75,4 @@ module _ {b : List ℕ} {at : ℕ} {r : PointLists} (l : ListsAt b at r) where
 
     pub transfers_small : after_transfers r.transfers.first.at (transfers b r.transfers.count r.transfers.first.at) < 2 ^ 32
     transfers_small =
-        omega (arith, conditions_small, l.condition_list.0, records_wide 72 (condition_at b) r.conditions.count r.conditions.first.at)
+        omega (arith, conditions_small, l.condition_list.0, records_wide condition_bits (condition_at b) r.conditions.count r.conditions.first.at)

@@ -7,9 +7,9 @@ use native.Mathlib.Omega.{arith}
 use lib.ListN.{length}
 use Rattle.rules.specs.declared.Header.{Header}
 use Rattle.rules.specs.Lists.{All, In}
-use Rattle.rules.specs.File.{Point, records, after, header_at, band_at, point_at, points, bands_at, bands, after_bands, after_point, after_points, decode}
+use Rattle.rules.specs.File.{Point, records, after, header_at, band_bits, band_at, point_at, points, bands_from, bands, after_bands, after_point, after_points, decode, decode_in}
 use Rattle.rules.specs.Good.{GoodPoint, Good}
-use Rattle.records.proofs.Positions.{forward, point_forward, records_wide}
+use Rattle.rules.proofs.Positions.{forward, point_forward, records_wide}
 
 module _ (b : List ℕ) where
   pub record PointsLeft (left at : ℕ) : Type 0 where
@@ -57,37 +57,37 @@ module _ (b : List ℕ) where
     point_among = p.among _ (subst (In (point_at b at)) (sym (points_one left at h)) (inl refl))
 
   -- all points, after the bands
-  module _ (g : Good b) {head : Header} {at : ℕ} (e : head ≡ header_at b) (f : at ≡ after_bands bands_at (bands b head.bands bands_at)) where
-    bands_end : at ≡ after_bands bands_at (decode b).tariff.bands
-    unfolding decode
-    bands_end = f ∙ ap (λ (h : Header). after_bands bands_at (bands b h.bands bands_at)) e
+  module _ (g : Good b) {head : Header} {at : ℕ} (e : head ≡ header_at b) (f : at ≡ after_bands (bands_from b) (bands b head.bands (bands_from b))) where
+    bands_end : at ≡ after_bands (bands_from b) (decode b).tariff.bands
+    unfolding decode_in
+    bands_end = f ∙ ap (λ (h : Header). after_bands (bands_from b) (bands b h.bands (bands_from b))) e
 
     pub first_points : points b head.points at ≡ (decode b).points
-    unfolding decode
-    first_points = ap (λ at. points b head.points at) bands_end ∙ ap (λ (h : Header). points b h.points (after_bands bands_at (bands b (header_at b).bands bands_at))) e
+    unfolding decode_in
+    first_points = ap (λ at. points b head.points at) bands_end ∙ ap (λ (h : Header). points b h.points (after_bands (bands_from b) (bands b (header_at b).bands (bands_from b)))) e
 
     pub first_left : PointsLeft head.points at
     first_left =
         record {
           good = subst (All (GoodPoint (decode b).tariff.service)) (sym first_points) g.points;
-          ends = omega (arith, g.fits, ap (λ from. after_points from (points b head.points at)) bands_end, ap (after_points (after_bands bands_at (decode b).tariff.bands)) first_points);
+          ends = omega (arith, g.fits, ap (λ from. after_points from (points b head.points at)) bands_end, ap (after_points (after_bands (bands_from b) (decode b).tariff.bands)) first_points);
           short = g.short;
           among = λ point m. subst (In point) first_points m;
         }
 
   -- the cursor past as many bands as the header says is after the bands
-  pub past_bands : (head : Header) {start n : ℕ} → (start ≡ bands_at) × (n ≡ head.bands) → start + n * 90 ≡ after_bands bands_at (bands b head.bands bands_at)
-  past_bands head e = ap₂ (λ (s n : ℕ). s + n * 90) e.0 e.1 ∙ sym (records_wide 90 (band_at b) head.bands bands_at)
+  pub past_bands : (head : Header) {start n : ℕ} → (start ≡ bands_from b) × (n ≡ head.bands) → start + n * band_bits ≡ after_bands (bands_from b) (bands b head.bands (bands_from b))
+  past_bands head e = ap₂ (λ (s n : ℕ). s + n * band_bits) e.0 e.1 ∙ sym (records_wide band_bits (band_at b) head.bands (bands_from b))
 
   -- all points again, by that cursor
-  module _ (g : Good b) {head : Header} {start : ℕ} (e : (head ≡ header_at b) × (start ≡ bands_at)) where
-    pub points_start : PointsLeft head.points (start + head.bands * 90)
+  module _ (g : Good b) {head : Header} {start : ℕ} (e : (head ≡ header_at b) × (start ≡ bands_from b)) where
+    pub points_start : PointsLeft head.points (start + head.bands * band_bits)
     points_start = first_left g e.0 (past_bands head (e.1, refl))
 
     pub year_from_lem : 2020 ≤ head.year
-    unfolding decode
+    unfolding decode_in
     year_from_lem = omega (arith, g.header.year_from, ap (λ (h : Header). h.year) e.0)
 
     pub year_to_lem : head.year ≤ 2098
-    unfolding decode
+    unfolding decode_in
     year_to_lem = omega (arith, g.header.year_to, ap (λ (h : Header). h.year) e.0)

@@ -12,7 +12,7 @@ use Rattle.rules.specs.Settlement.{statement}
 use Rattle.rules.specs.Services.{zero_statement, StatementAnswer, statement_told, statement_at}
 use Rattle.rules.specs.Good.{Good}
 use Rattle.records.specs.declared.Checked.{Checked}
-use Rattle.records.proofs.Positions.{length_records}
+use Rattle.rules.proofs.Positions.{length_records}
 use Rattle.records.proofs.Walk.{PointsLeft, points_one, points_next, first_left, first_points, point_here, point_ends}
 use Rattle.point.specs.Standing.{Standing}
 

@@ -1,7 +1,7 @@
 -- `meters::add_meter` meets its contract: its litres, and then its figures. Assumes nothing.
 use native.Mathlib.Omega.{arith}
 use Rattle.rules.specs.File.{meter_at}
-use Rattle.records.proofs.Positions.{meter_forward}
+use Rattle.rules.proofs.Positions.{meter_forward}
 use Rattle.spans.proofs.Days.{cut_kept}
 use Rattle.meters.proofs.Adding.{weights_fit, reads_room, figures_room, meter_added}
 use Rattle.meters.proofs.add_meter.Goals as goal

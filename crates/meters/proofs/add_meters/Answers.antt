@@ -4,7 +4,7 @@ use Prim.Native.Nat.{◌-◌, ◌<◌}
 use mathlib.Core.Path.{refl}
 use native.Mathlib.Omega.{arith}
 use Rattle.rules.specs.File.{meter_at, after_meter}
-use Rattle.records.proofs.Positions.{length_records, meter_forward}
+use Rattle.rules.proofs.Positions.{length_records, meter_forward}
 use Rattle.records.proofs.Ahead.{ahead_past, ahead_one, ahead_turn, ahead_done}
 use Rattle.meters.proofs.Adding.{meters_begin, meters_ask, meters_turn, meters_end}
 use Rattle.meters.proofs.add_meters.Goals as goal

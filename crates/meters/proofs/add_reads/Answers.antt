@@ -3,7 +3,7 @@
 use Prim.Native.Nat.{◌-◌, ◌<◌}
 use native.Mathlib.Omega.{arith}
 use Rattle.rules.specs.File.{read_at, after_read, reads as reads_of}
-use Rattle.records.proofs.Positions.{forward}
+use Rattle.rules.proofs.Positions.{forward}
 use Rattle.records.proofs.Ahead.{read_past, ahead_within, ahead_one, ahead_turn}
 use Rattle.meters.proofs.Advances.{reads_ask, reads_turn, no_reads, reads_begin, reads_done}
 use Rattle.meters.proofs.add_reads.Goals as goal

@@ -2,7 +2,7 @@
 use mathlib.Core.Path.{◌∙◌}
 use native.Mathlib.Omega.{arith}
 use Rattle.rules.specs.File.{point_at}
-use Rattle.records.proofs.Positions.{point_forward}
+use Rattle.rules.proofs.Positions.{point_forward}
 use Rattle.records.proofs.Skip.{meters_end, meters_small}
 use Rattle.records.proofs.after_point.Goals as goal
 

@@ -4,9 +4,9 @@ use Prim.Native.Nat.{◌+◌}
 use mathlib.Core.Path.{refl, sym, ap, ◌∙◌}
 use native.Mathlib.Omega.{arith}
 use Rattle.rules.specs.declared.PointHead.{PointHead}
-use Rattle.rules.specs.File.{transfer_at, condition_at}
+use Rattle.rules.specs.File.{transfer_bits, transfer_at, condition_bits, condition_at}
 use Rattle.rules.proofs.Fields.{field_lt}
-use Rattle.records.proofs.Positions.{records_wide}
+use Rattle.rules.proofs.Positions.{records_wide}
 use Rattle.records.proofs.point_lists.Goals as goal
 
 pub end-requires : goal.end-requires
@@ -35,6 +35,6 @@ returns c =
     record {
       point = taken.0;
       transfer_list = (taken.1, refl);
-      condition_list = (c.end.ensures ∙ sym (records_wide 32 (transfer_at file) _ _), refl);
-      meter_list = (c.end-2.ensures ∙ sym (records_wide 72 (condition_at file) _ _), refl);
+      condition_list = (c.end.ensures ∙ sym (records_wide transfer_bits (transfer_at file) _ _), refl);
+      meter_list = (c.end-2.ensures ∙ sym (records_wide condition_bits (condition_at file) _ _), refl);
     }

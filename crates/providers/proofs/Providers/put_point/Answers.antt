@@ -3,7 +3,7 @@ use mathlib.Core.Path.{refl, sym, ◌∙◌}
 use native.Mathlib.Omega.{arith}
 use Rattle.rules.specs.File.{bands_at, point_at}
 use Rattle.rules.proofs.Exits.{handed_on}
-use Rattle.records.proofs.Positions.{point_forward}
+use Rattle.rules.proofs.Positions.{point_forward}
 use Rattle.records.proofs.Skip.{transfers_are, meters_end, meters_small}
 use Rattle.records.proofs.Walk.{year_from_lem, year_to_lem}
 use Rattle.providers.proofs.Points.{point_sound, point_put}
