@@ -10,10 +10,11 @@ extern "C" {
 #endif
 
 /*
- * Settles a file and writes its report.
+ * Settles a file and writes its report. The file is of version 1, with up to 64 points, or of version 2, with up to 256; of either it
+ * may have 65,536 bytes and 64 providers with a charged day.
  *
  * The answer is one number. From 52 on it is the length of the report, which stands at the front of `space`. Below 52 it is a refusal: the number
- * of the first breach in the order of document 01, from 1 to 14. No report is under 52 bytes and no refusal over 14, so the two don't collide.
+ * of the first breach in the documents' order, from 1 to 14. No report is under 52 bytes and no refusal over 14, so the two don't collide.
  *
  * Promised, and proved of every file and every space:
  * - the same file and the same space length always give the same answer, to the byte;
@@ -27,7 +28,7 @@ extern "C" {
  * - `file` points to `file_len` bytes that can be read, and `space` to `space_len` bytes that can be written, until the call returns;
  * - the two don't overlap, and nobody else writes to them during the call;
  * - neither pointer is null, even where its length is 0 (any other address will do then; it is not read);
- * - the stack has room. Measured, not proved: a call took at most 14,680 bytes, its return address included, on the seven files of
+ * - the stack has room. Measured, not proved: a call took at most 14,680 bytes, its return address included, on the eight files of
  *   docs/MEASURED.md, part 4 (x86-64, the archive as `rt lib` builds it, glibc's memcpy and memset).
  *
  * A `file_len` of 0 is a file that lacks bits: the answer is 2. A `space_len` of 0 is a space too short: 14, unless the file is refused first.
@@ -44,8 +45,8 @@ uint64_t settlement_report(const uint8_t *file, size_t file_len, uint8_t *space,
 enum settlement_refusal {
     SETTLEMENT_FILE_TOO_LONG = 1,          /* over 65,536 bytes */
     SETTLEMENT_RECORD_LACKS_BITS = 2,      /* a record lacks bits */
-    SETTLEMENT_MARK_OR_VERSION = 3,        /* mark or version */
-    SETTLEMENT_FIELD_OUTSIDE_RANGE = 4,    /* field outside its range */
+    SETTLEMENT_MARK_OR_VERSION = 3,        /* mark, or a version other than 1 and 2 */
+    SETTLEMENT_FIELD_OUTSIDE_RANGE = 4,    /* field outside its range, such as 65 points in version 1 or 257 in version 2 */
     SETTLEMENT_NOT_ASCENDING = 5,          /* band sizes, point numbers, or a list's days not strictly ascending */
     SETTLEMENT_FIRST_TRANSFER_LATE = 6,    /* first transfer after connection */
     SETTLEMENT_DISCOUNTS_OVER_WHOLE = 7,   /* discounts together above 10,000 */
