@@ -115,11 +115,14 @@ fn is_a(record: &Record, layout: &'static Layout) -> bool {
     record.layout == layout
 }
 
-/// A count that lies: by one, or by as much as its bits can tell.
+/// A count that lies: by one, or by as much as its bits can tell; of four, one
+/// time one of the header's.
 fn wrong_count(rng: &mut Rng, records: &mut [Record]) -> bool {
     let has_count =
         |record: &Record| record.layout.fields.iter().any(|field| field.kind == Kind::Count);
-    let Some(place) = any(rng, records, |_, record| has_count(record)) else { return false };
+    let place =
+        if rng.one_in(4) { Some(0) } else { any(rng, records, |_, record| has_count(record)) };
+    let Some(place) = place else { return false };
     let record = &mut records[place];
     let counts = record.layout.fields.iter().filter(|field| field.kind == Kind::Count);
     let counts: Vec<&Field> = counts.collect();
