@@ -158,10 +158,10 @@ impl Reader<'_> {
     }
 
     fn header(&mut self) -> Result<Record, Breach> {
-        // the version says how long the header is, and stands at the same bits
-        // in either
+        // the version says how long the header is, so it is looked at first: it
+        // follows the 16 bits of the mark in either
         let version = self.cursor.ahead(16, 4);
-        let record = self.next(header(version))?;
+        let record = self.next(header_layout(version))?;
         self.rule(3, "mark", record.get("mark") == MARK, "not hexadecimal 5753, which is 22355")?;
         // "version 4-bit values other than 1 and 2 are still number 3"
         let known = [VERSION_1, VERSION_2].contains(&version);

@@ -335,7 +335,7 @@ impl Headers {
 /// another mark.
 fn version_and_points(bytes: &[u8]) -> Option<String> {
     let mut cursor = Cursor::new(bytes);
-    let record = cursor.record(header(cursor.ahead(16, 4)))?;
+    let record = cursor.record(header_layout(cursor.ahead(16, 4)))?;
     let version = record.get("version");
     let limits: &[u64] = match version {
         _ if record.get("mark") != MARK => return None,

@@ -122,9 +122,10 @@ pub struct Read {
     pub value: u64,
 }
 
-/// The header of a version. One that is neither 1 nor 2 is refused by 3
-/// whatever follows, and is laid out as version 1: either takes 14 bytes.
-pub fn header(version: u64) -> &'static Layout {
+/// The header of a version. Of one that is neither 1 nor 2 only the length
+/// counts, since 2 comes before 3: it is taken for version 1's, and either of
+/// the two takes 14 bytes.
+pub fn header_layout(version: u64) -> &'static Layout {
     match version {
         VERSION_2 => &HEADER_2,
         _ => &HEADER_1,
@@ -185,7 +186,7 @@ impl Header {
         let (bands, points) = (count(bands), count(points));
         let values =
             vec![mark, version, service, year, bands, points, property, roads, capacity, standard];
-        Record::new(header(version), values)
+        Record::new(header_layout(version), values)
     }
 }
 

@@ -1,4 +1,4 @@
-//! The second implementation of document 01 and of requests of document 02,
+//! The second implementation of document 01 and of request P1 of document 02,
 //! written to be compared with the first: plain rather than clever. Words in
 //! quotation marks are the papers'.
 

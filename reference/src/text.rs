@@ -60,17 +60,18 @@ pub fn parse(text: &str) -> Result<File, String> {
             added.map_err(|error| format!("line {}: {keyword}: {error}", index + 1))?;
         }
     }
-    match headers {
-        // only now is the version known, since the header may stand anywhere
-        1 => fits(file.points.len(), header(file.header.version), "points").map(|()| file),
-        _ => Err(format!("{headers} header lines, where one is needed")),
+    if headers != 1 {
+        return Err(format!("{headers} header lines, where one is needed"));
     }
+    // only now is the version known, since the header may stand anywhere
+    fits(file.points.len(), header_layout(file.header.version), "points")?;
+    Ok(file)
 }
 
 fn add_record(file: &mut File, keyword: &str, words: &[&str]) -> Result<(), String> {
     match keyword {
         "header" => {
-            // both versions have the same fields
+            // both versions have the same fields, and a text tells no count
             file.header = Header::of(&parse_record(&HEADER_1, words)?);
             Ok(())
         }

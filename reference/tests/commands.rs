@@ -198,21 +198,26 @@ fn bad_texts() {
     bad(meter, "", "line 7: read: no meter above it");
     let band = "band size 20 annual 365000 allowance 0 threshold 100\n";
     bad(band, &band.repeat(32), "more bands than a count of 5 bits can tell");
-    let points = |version: u64, count: u64| {
-        let header = format!("header version {version}");
-        let line = "point number 0 connected 0 disconnected none\n";
-        EXAMPLE.replace("header", &header) + &line.repeat(count as usize - 1)
-    };
-    for (version, countable) in [(0, 127), (1, 127), (2, 511), (3, 127)] {
-        assert_eq!(run(&["encode"], points(version, countable).as_bytes()).status.code(), Some(0));
-        let error = told(1, &["encode"], points(version, countable + 1).as_bytes());
-        let bits = if version == 2 { 9 } else { 7 };
-        assert!(error.contains(&format!("more points than a count of {bits} bits can tell")));
-    }
     let text = [EXAMPLE, EXAMPLE].concat();
     assert!(told(1, &["encode"], text.as_bytes()).contains("2 header lines"));
     assert!(told(1, &["encode"], b"").contains("0 header lines"));
     assert!(told(1, &["encode"], &[0xff, 0xfe]).contains("UTF-8"));
+}
+
+/// The count of points has 9 bits in version 2, and 7 in any other.
+#[test]
+fn points_that_a_count_can_tell() {
+    let text = |version: u64, count: usize| {
+        let header = format!("header version {version}");
+        let line = "point number 0 connected 0 disconnected none\n";
+        EXAMPLE.replace("header", &header) + &line.repeat(count - 1)
+    };
+    for (version, bits) in [(0, 7), (1, 7), (2, 9), (3, 7)] {
+        let most = (1 << bits) - 1;
+        printed(&["encode"], text(version, most).as_bytes());
+        let error = told(1, &["encode"], text(version, most + 1).as_bytes());
+        assert!(error.contains(&format!("more points than a count of {bits} bits can tell")));
+    }
 }
 
 #[test]

@@ -27,6 +27,11 @@ fn example() -> File {
     file_of(EXAMPLE)
 }
 
+/// The example in version 2.
+fn example_2() -> File {
+    file_of(&changed("header", "header version 2"))
+}
+
 /// The example with a change in its text.
 fn changed(from: &str, to: &str) -> String {
     assert_eq!(EXAMPLE.matches(from).count(), 1, "{from}");
@@ -105,8 +110,7 @@ fn sewerage_is_named() {
 #[test]
 fn bytes_of_the_example() {
     assert_eq!(example().to_bytes(), packed("1:4 0:1 2021:12 1:5 1:7"));
-    let wide = changed("header", "header version 2");
-    assert_eq!(file_of(&wide).to_bytes(), packed("2:4 0:1 2021:12 1:5 1:9"));
+    assert_eq!(example_2().to_bytes(), packed("2:4 0:1 2021:12 1:5 1:9"));
 }
 
 /// The example's fields, with those of the header from the version up to the
@@ -134,6 +138,18 @@ fn packed(header: &str) -> Vec<u8> {
     }
     let bytes = (0..bits.len() / 8).map(|at| u8::from_str_radix(&bits[at * 8..at * 8 + 8], 2));
     bytes.map(Result::unwrap).collect()
+}
+
+/// "later fields move by two bits"
+#[test]
+fn later_fields_move_by_two_bits() {
+    let bits = |file: &File| -> String {
+        file.to_bytes().iter().map(|byte| format!("{byte:08b}")).collect()
+    };
+    let one = bits(&example());
+    // the count of points comes after 38 bits, and the records take 501
+    let moved = format!("{}0010{}00{}", &one[..16], &one[20..38], &one[38..501]);
+    assert_eq!(bits(&example_2()), moved + "0");
 }
 
 /// A water file for 2021 with one point connected on day 100 or as told, and
@@ -233,12 +249,75 @@ fn a_park_of_256_points() {
     assert_eq!(lines.lines().filter(|line| line.starts_with("statement ")).count(), 257);
 }
 
+/// A park of 65 shops, worked by hand. The nth of the first 64 has the last n
+/// days of the year, 2,080 together, and no meter. The 65th has the last 65
+/// days, 1,000 litres on each, and T = 100,000 × 65 / 365 = 17,808; so Y is
+/// 2 × 17,808 + 47,192 = 82,808. Of these days 25 are provider 5's, for whom
+/// 82,808 × 25 / 65 is 31,849.2.
+fn park_of_65() -> File {
+    let prices = "property 0 roads 0 capacity 2000 standard 1000";
+    let mut text = format!("header version 2 service water year 2021 {prices}\n");
+    text += "band size 20 annual 365000 allowance 0 threshold 100\n";
+    for number in 1..=64 {
+        let connected = 8_126 - number;
+        text += &format!("point number {number} connected {connected} disconnected none\n");
+        text += "transfer day 0 provider 5\n";
+    }
+    text += "point number 65 connected 8061 disconnected none
+        transfer day 0 provider 5
+        transfer day 8086 provider 6
+        meter size 20 share 100 return 100 digits 5 installed 0 removed none
+        read day 8061 value 7
+        read day 8126 value 72";
+    file_of(&text)
+}
+
+const REPORT_OF_65: &str = "Type:,RF,,
+Tariff Year:,2021,,
+Service:,Water,,
+,,,
+LP:,5,,
+Total Charge=,56849,Total Volume=,25000
+Service Element,Days,Volume / l,Charge / cp
+Meter,2105,,25000
+Volumetric,2105,25000,31849
+Property Drainage,2105,,0
+Roads Drainage,2105,,0
+END LP:,5,,
+LP:,6,,
+Total Charge=,90959,Total Volume=,40000
+Service Element,Days,Volume / l,Charge / cp
+Meter,40,,40000
+Volumetric,40,40000,50959
+Property Drainage,40,,0
+Roads Drainage,40,,0
+END LP:,6,,
+";
+
+#[test]
+fn a_park_of_65_points() {
+    let bytes = park_of_65().to_bytes();
+    assert_eq!(String::from_utf8(services::report_program(&bytes)).unwrap(), REPORT_OF_65);
+    let days = |days: u64| (0, Statement { days, ..Statement::default() });
+    let last = Statement {
+        days: 65,
+        litres: 65_000,
+        disconnected: 0,
+        v: 65_000,
+        y: 82_808,
+        charges: [65_000, 82_808, 0, 0],
+    };
+    assert_eq!(services::statement(&bytes, 0), days(1));
+    assert_eq!(services::statement(&bytes, 63), days(64));
+    assert_eq!(services::statement(&bytes, 64), (0, last));
+    assert_eq!(services::statement(&bytes, 65), (15, Statement::default()));
+}
+
 /// "later fields move by two bits": each still has its range, and its value.
 #[test]
 fn a_file_of_version_2() {
-    let text = changed("header", "header version 2");
-    let bytes = file_of(&text).to_bytes();
-    assert_eq!(decode(&bytes), Ok(file_of(&text)));
+    let bytes = example_2().to_bytes();
+    assert_eq!(decode(&bytes), Ok(example_2()));
     assert_eq!(services::report_program(&bytes), REPORT.as_bytes());
     let of_version_1 = services::statement(&example().to_bytes(), 0);
     assert_eq!(services::statement(&bytes, 0), of_version_1);
@@ -257,7 +336,8 @@ fn a_file_of_version_2() {
         ("size 20 annual", "size 0 annual"),
         ("digits 5", "digits 3"),
     ] {
-        assert_eq!(refused(&file_of(&text.replace(from, to)).to_bytes()), 4, "{to}");
+        let text = changed(from, to).replace("header", "header version 2");
+        assert_eq!(refused(&file_of(&text).to_bytes()), 4, "{to}");
     }
 }
 
@@ -500,13 +580,29 @@ fn slips() {
     assert_eq!((half.v, half.charges[0]), (182_500, 365_000));
 }
 
-/// "its own numbers ascending": records that break several.
+/// "its own numbers ascending": records that break several, of a header 2, 3
+/// and 4.
+#[test]
+fn numbers_of_a_header_ascend() {
+    let header = |fields: &str, year: u64| {
+        let text = changed("header", &format!("header {fields}"));
+        file_of(&text.replace("year 2021", &format!("year {year}"))).to_bytes()
+    };
+    for version in [1, 2] {
+        let (good, bad) = (format!("version {version}"), format!("mark 0 version {version}"));
+        let number = |fields: &str, year: u64| check(&header(fields, year));
+        assert_eq!((number(&good, 2019), number(&bad, 2021), number(&bad, 2019)), (4, 3, 3));
+        assert_eq!((check(&header(&good, 2019)[..13]), check(&header(&bad, 2019)[..13])), (2, 2));
+    }
+    for fields in ["version 3", "mark 0 version 0"] {
+        assert_eq!(check(&header(fields, 2019)), 3);
+        assert_eq!(check(&header(fields, 2019)[..13]), 2);
+    }
+}
+
+/// The same of a band, a point, a transfer, a condition and a meter.
 #[test]
 fn numbers_of_one_record_ascend() {
-    let header = |fields: &str| breach_after("header", &format!("header {fields}"));
-    assert_eq!(header("mark 0 version 0"), 3);
-    let text = changed("header", "header mark 0").replace("year 2021", "year 0");
-    assert_eq!(check(&file_of(&text).to_bytes()), 3);
     let band = "threshold 100\nband size 20 annual 0 allowance 2 threshold";
     assert_eq!(breach_after("threshold 100", &format!("{band} 1")), 4);
     assert_eq!(breach_after("threshold 100", &format!("{band} 2")), 5);
@@ -921,7 +1017,7 @@ fn explain_shows_figures() {
     assert!(
         words.contains("V 365000, F 0, T 100000, Y 465000\n#   charges [365000, 465000, 0, 0]\n")
     );
-    let wide = explain(&file_of(&changed("header", "header version 2")).to_bytes());
+    let wide = explain(&example_2().to_bytes());
     let header = "header mark 0x5753 version 2 service water year 2021 property 0 roads 0 \
                   capacity 2000 standard 1000 # bit 0, bands 1, points 1\n\
                   band size 20 annual 365000 allowance 0 threshold 100 # bit 109\n";

@@ -9,7 +9,7 @@ use reference::cases::{lines, read_case, write_case, Case};
 use reference::check::{check, decode};
 use reference::coverage::{Coverage, Headers};
 use reference::explain::explain;
-use reference::file::{File, MOST_BYTES};
+use reference::file::{File, Header, MOST_BYTES};
 use reference::random::{self, other_transfers, small, valid, Rng, Sort, SMALL};
 use reference::services::{self, accept};
 use reference::settlement::{exact, figures, statement, Row, Statement};
@@ -217,6 +217,32 @@ fn transfers_leave_statements_alone() {
         }
     }
     assert!(differing > 500, "{differing}");
+}
+
+/// "Version 1 files are read as before": what either version can hold settles
+/// alike in both. One of more points is refused by 4 in version 1.
+#[test]
+fn versions_settle_alike() {
+    let (mut alike, mut refused) = (0, 0);
+    for (bytes, file) in accepted(400, 1_000) {
+        let version = if file.header.version == 1 { 2 } else { 1 };
+        let header = Header { version, ..file.header.clone() };
+        let other = File { header, ..file.clone() };
+        if file.points.len() > 127 || other.bit_length() > MOST_BYTES * 8 {
+            continue;
+        }
+        let other_bytes = other.to_bytes();
+        if file.points.len() > 64 {
+            assert_eq!(check(&other_bytes), 4);
+            refused += 1;
+        } else {
+            let case = |file: &[u8]| Case { file: file.to_vec(), entries: 65, space: 65_536 };
+            assert_eq!(lines(0, &case(&other_bytes)), lines(0, &case(&bytes)));
+            assert_eq!(decode(&other_bytes), Ok(other));
+            alike += 1;
+        }
+    }
+    assert!(alike > 600 && refused > 2, "{alike} {refused}");
 }
 
 /// No report is under 52 bytes, and its total lines are the rows'.

@@ -115,18 +115,24 @@ fn is_a(record: &Record, layout: &'static Layout) -> bool {
     record.layout == layout
 }
 
-/// A count that lies by one.
+/// A count that lies: by one, or by as much as its bits can tell; of four, one
+/// time one of the header's.
 fn wrong_count(rng: &mut Rng, records: &mut [Record]) -> bool {
     let has_count =
         |record: &Record| record.layout.fields.iter().any(|field| field.kind == Kind::Count);
-    let Some(place) = any(rng, records, |_, record| has_count(record)) else { return false };
+    let place =
+        if rng.one_in(4) { Some(0) } else { any(rng, records, |_, record| has_count(record)) };
+    let Some(place) = place else { return false };
     let record = &mut records[place];
     let counts = record.layout.fields.iter().filter(|field| field.kind == Kind::Count);
     let counts: Vec<&Field> = counts.collect();
     let field = *rng.pick(&counts);
     let count = record.get(field.name);
-    let wrong =
-        if rng.one_in(2) { count.saturating_sub(1) } else { (count + 1).min(field.widest()) };
+    let wrong = match rng.below(3) {
+        0 => count.saturating_sub(1),
+        1 => (count + 1).min(field.widest()),
+        _ => rng.field(0, field.widest()),
+    };
     record.set(field.name, wrong);
     true
 }
@@ -205,11 +211,11 @@ fn outside(rng: &mut Rng, records: &[Record], place: usize, field: &Field) -> Op
 }
 
 /// A field of any record, each kind of record as often, out of its range; of
-/// eight, one time the count of points, whose range is the version's.
+/// four, one time the count of points, whose range is the version's.
 fn out_of_range(rng: &mut Rng, records: &mut [Record]) -> bool {
     let header = records[0].layout;
     let layouts = [header, &BAND, &POINT, &TRANSFER, &CONDITION, &METER, &READ];
-    let (layout, field) = if rng.one_in(8) {
+    let (layout, field) = if rng.one_in(4) {
         (header, header.field("points"))
     } else {
         let layout = *rng.pick(&layouts);

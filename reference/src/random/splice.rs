@@ -69,7 +69,7 @@ fn points(rng: &mut Rng, one: &File, other: &File) -> File {
 
 /// Drops the points that the count cannot tell, in its 7 or 9 bits.
 fn cut_to_count(file: &mut File) {
-    let most = header(file.header.version).field("points").widest();
+    let most = header_layout(file.header.version).field("points").widest();
     file.points.truncate(most as usize);
 }
 
