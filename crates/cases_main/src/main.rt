@@ -87,9 +87,9 @@ fn print_statement<W: Write>(out: &mut W, place: u64, number: u64, s: Statement)
     )
 }
 
-// No file has more than 64 points, so that the 65th place is refused.
+// No file has more than 256 points, so that the 257th place is refused.
 fn print_statements<W: Write>(out: &mut W, case: Case) -> io::Result<()> {
-    for place in 0..65 {
+    for place in 0..257 {
         match unit::statement(case.file, place) {
             Ok(statement) => print_statement(out, place, 0, statement)?,
             Err(breach) => {

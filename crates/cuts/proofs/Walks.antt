@@ -9,7 +9,7 @@ use native.Mathlib.Omega.{arith}
 use lib.Dec.{leb}
 use Rattle.rules.specs.declared.Transfer.{Transfer}
 use Rattle.rules.specs.Lists.{latest}
-use Rattle.rules.specs.File.{transfer_at, after_transfer, transfers, condition_at, after_condition, conditions}
+use Rattle.rules.specs.File.{transfer_bits, transfer_at, after_transfer, transfers, condition_bits, condition_at, after_condition, conditions}
 use Rattle.rules.specs.Charges.{no_condition}
 use Rattle.rules.proofs.Positions.{forward}
 use Rattle.records.specs.Conditions.{condition_of}
@@ -54,7 +54,7 @@ module _ {file : List ℕ} {count at start : ℕ} (n : ℕ) (sound : SoundTransf
   pub first_small : past < 2 ^ 32
   first_small = reading_small before_first (λ at t. omega arith) (some_transfers sound)
 
-  pub first_owns : {r : InForce Transfer} → ReadAhead (transfer_at file) 32 (λ t. t.day) (λ t. t) start n t past (count - 1) r → Owns file start n (transfer_in file count at start) 0 r
+  pub first_owns : {r : InForce Transfer} → ReadAhead (transfer_at file) transfer_bits (λ t. t.day) (λ t. t) start n t past (count - 1) r → Owns file start n (transfer_in file count at start) 0 r
   first_owns k = walked_next before_first (some_transfers sound) (le_refl 0) k
 
 -- the provider of the transfer in force
@@ -80,7 +80,7 @@ module _ {file : List ℕ} {count at : ℕ} (start n : ℕ) (sound : SoundCondit
   pub conditions_small : at < 2 ^ 32
   conditions_small = omega (arith, sound.ends, forward {next = λ at c. after_condition at} (λ at c. omega arith) at (conditions file count at))
 
-  pub none_holds : {g : Groups} {r : InForce Groups} → (g.state ≡ 0) × (g.rateable ≡ 0) → ReadAhead (condition_at file) 72 (λ c. c.day) condition_of start n g at count r →
+  pub none_holds : {g : Groups} {r : InForce Groups} → (g.state ≡ 0) × (g.rateable ≡ 0) → ReadAhead (condition_at file) condition_bits (λ c. c.day) condition_of start n g at count r →
       Held file start n (condition_in file count at start) 0 r
   none_holds {g} z k = rw (k.now, k.left, no_groups g z)
       record {

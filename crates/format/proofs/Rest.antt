@@ -18,9 +18,10 @@ use Rattle.rules.specs.declared.Condition.{Condition}
 use Rattle.rules.specs.declared.MeterHead.{MeterHead}
 use Rattle.rules.specs.declared.Read.{Read}
 use Rattle.rules.specs.Calendar.{no_day}
-use Rattle.rules.specs.File.{records, after, header_at, band_at, point_head_at, transfer_at, condition_at, meter_head_at, read_at, meter_at, point_at, decode, bands_at, after_band, transfers_from, after_transfer, after_condition, reads_from, after_read, after_meter, after_point}
+use Rattle.rules.specs.Form.{form_at}
+use Rattle.rules.specs.File.{records, after, header_at, band_at, point_head_at, transfer_at, condition_at, meter_head_at, read_at, meter_at, point_at, decode_in, bands_from, after_band, transfers_from, after_transfer, after_condition, reads_from, after_read, after_meter, after_point}
 use Rattle.rules.proofs.Positions.{length_records}
-use Rattle.rules.specs.Refusal.{header_rule, band_rule, point_rule, transfer_rule, condition_rule, meter_rule, read_rule, band_numbers, transfer_numbers, condition_numbers, read_numbers, meter_numbers, point_numbers, file_numbers, padding_number, first_or, file_refusal}
+use Rattle.rules.specs.Refusal.{header_rule, band_rule, point_rule, transfer_rule, condition_rule, meter_rule, read_rule, band_numbers, transfer_numbers, condition_numbers, read_numbers, meter_numbers, point_numbers, file_numbers, padding_number, first_or, file_refusal_in, file_refusal}
 
 -- the end of a file, in bits
 abbrev pub end : List ℕ → ℕ
@@ -173,8 +174,8 @@ list_turn b kind n i at s rest h = let e : n - i ≡ suc (n - (i + 1)) = omega a
 -- ---- the whole file
 
 pub file_turn : (b : List ℕ) → length b ≤ 65536
-    → file_refusal b ≡ first_or (header_rule (end b) (header_at b) ∷ []) (rest_number b (opened (header_at b)) bands_at)
-unfolding file_refusal file_numbers decode rest_number list_number run
+    → file_refusal b ≡ first_or (header_rule (form_at b) (end b) (bands_from b) (header_at b) ∷ []) (rest_number b (opened (header_at b)) (bands_from b))
+unfolding file_refusal_in file_numbers decode_in rest_number list_number run
 file_turn b short =
     simp (le-ltb 65536 (length b) short, length_records, sub-zero)
     (first_append (_ ∷ []) _ _ ∙ ap (first_or (_ ∷ [])) (first_append _ _ _))

@@ -9,7 +9,7 @@ use Rattle.rules.specs.declared.Service.TheVariants.{Water}
 use Rattle.rules.specs.declared.Header.{Header}
 use Rattle.rules.specs.declared.PointHead.{PointHead}
 use Rattle.rules.specs.declared.Transfer.{Transfer}
-use Rattle.rules.specs.File.{Tariff, Supply, Point, records, header_at, bands_at, bands, after_bands, points as points_from, point_at, transfers, after_point, decode}
+use Rattle.rules.specs.File.{Tariff, Supply, Point, records, header_at, bands_from, bands, after_bands, points as points_from, point_at, transfers, after_point, decode, decode_in}
 use Rattle.rules.specs.Charges.{charged_from, charged_count}
 use Rattle.rules.specs.Settlement.{insert_days, providers_and, providers_of}
 use Rattle.rules.specs.Good.{FirstBy, GoodPoint, Good}
@@ -82,8 +82,8 @@ module _ (b : List ℕ) where
     pub points : PointsLeft b left at
     pub whole : providers_and (decode b).tariff list (points_from b left at) ≡ providers_of (decode b).tariff (decode b).points
 
-  pub listing_start : Good b → {head : Header} {at : ℕ} → head ≡ header_at b → at ≡ after_bands bands_at (bands b head.bands bands_at) → Listing head.year head.points at []
-  unfolding providers_of decode
+  pub listing_start : Good b → {head : Header} {at : ℕ} → head ≡ header_at b → at ≡ after_bands (bands_from b) (bands b head.bands (bands_from b)) → Listing head.year head.points at []
+  unfolding providers_of decode_in
   listing_start g e f =
       record {
         is = ap (λ (h : Header). h.year) (sym e);

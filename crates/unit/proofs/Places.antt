@@ -7,7 +7,7 @@ use lib.ListN.{length}
 use Rattle.rules.specs.declared.Statement.{Statement}
 use Rattle.rules.specs.declared.Breach.TheVariants.{NoSuchPoint}
 use Rattle.std.specs.Prelude.{Ok, Err}
-use Rattle.rules.specs.File.{Point, bands_at, bands, after_bands, point_at, points, after_point, decode}
+use Rattle.rules.specs.File.{Point, bands_from, bands, after_bands, point_at, points, after_point, decode}
 use Rattle.rules.specs.Settlement.{statement}
 use Rattle.rules.specs.Services.{zero_statement, StatementAnswer, statement_told, statement_at}
 use Rattle.rules.specs.Good.{Good}
@@ -45,11 +45,11 @@ module _ (file : Checked) where
   module _ (place : ℕ) where
     pub past_last : many ≤ place → statement_told (Err NoSuchPoint) ≡ among (decode b).points place
     past_last h =
-        let first = after_bands bands_at (bands b file.head.bands bands_at) in
+        let first = after_bands (bands_from b) (bands b file.head.bands (bands_from b)) in
         let all : points b many first ≡ (decode b).points = first_points b good file.header refl in
         sym (no_point (decode b).points place (omega (arith, ap length all, length_records (point_at b) after_point many first)))
 
-    pub place_start : {at : ℕ} → at ≡ after_bands bands_at (bands b file.head.bands bands_at) → AtPlace place 0 at
+    pub place_start : {at : ℕ} → at ≡ after_bands (bands_from b) (bands b file.head.bands (bands_from b)) → AtPlace place 0 at
     place_start {at} first =
         let all : many - 0 ≡ many = omega arith in
         let here : place - 0 ≡ place = omega arith in

@@ -11,7 +11,7 @@ use Rattle.rules.specs.declared.Header.{Header}
 use Rattle.rules.specs.declared.Breach.{Breach}
 use Rattle.rules.specs.Numbered.{refusal_of, one_number}
 use Rattle.rules.specs.declared.Row.{Row}
-use Rattle.rules.specs.File.{Tariff, Point, File, decode}
+use Rattle.rules.specs.File.{Tariff, Point, File, decode, decode_in}
 use Rattle.rules.specs.Lists.{All}
 use Rattle.rules.specs.Refusal.{first_or}
 use Rattle.rules.specs.Settlement.{rows, row_and, clear_row, providers_of}
@@ -70,7 +70,7 @@ module _ (accepted : Accepted) where
       (omega (arith, year_to_lem b good (accepted.file.header, accepted.file.listed.0)), numbered file.tariff file.points (providers_of file.tariff file.points) (rw accepted.providers.is at fits))
 
   pub report_is : report file ≡ report_of accepted.file.head.service accepted.file.head.year (rows file)
-  unfolding report decode
+  unfolding report decode_in
   report_is = ap (λ (head : Header). report_of head.service head.year (rows file)) (sym accepted.file.header)
 
 -- a table of no more entries than the rows becomes the rows alone

@@ -12,10 +12,10 @@ returns-then-file-gt-MOST_BYTES-clause-number c = too_long _ c.if-file-gt-MOST_B
 
 pub returns-in_err-header-clause-number : goal.returns-in_err-header-clause-number
 returns-in_err-header-clause-number c = rw (handed_on c.from_residual.ensures.1)
-    (header_stops _ c.if-file-gt-MOST_BYTES.false c.header-header.ensures _ c.in_err-header.ensures)
+    (header_stops _ c.if-file-gt-MOST_BYTES.false c.header-header.ensures c.of.ensures _ c.in_err-header.ensures)
 
 pub bands-init : goal.bands-init
-bands-init c = opens _ c.if-file-gt-MOST_BYTES.false c.header-header.ensures c.in_ok-header.ensures
+bands-init c = opens _ c.if-file-gt-MOST_BYTES.false c.header-header.ensures c.of.ensures c.in_ok-header.ensures
 
 pub overflow_add-least : goal.overflow_add-least
 overflow_add-least c = omega (arith, has_room c.bands.invariant c.bands-test.true c.band-band.ensures)
@@ -95,7 +95,7 @@ returns-in_err-padding-clause-number c = rw (handed_on c.from_residual-in_err-pa
 pub invariant_of-result : goal.invariant_of-result
 invariant_of-result c =
     record {
-      good = accepted _ (sym (file_ends (ends c.points.invariant c.points-test.false) c.in_ok-padding.ensures));
+      good = accepted _ _ (sym (file_ends (ends c.points.invariant c.points-test.false) c.in_ok-padding.ensures));
       header = c.header-header.ensures.0;
       listed = (c.header-header.ensures.1, refl);
     }

@@ -1,7 +1,7 @@
 -- `Providers::put_point` meets its contract. Assumes nothing.
 use mathlib.Core.Path.{refl, sym, ◌∙◌}
 use native.Mathlib.Omega.{arith}
-use Rattle.rules.specs.File.{bands_at, point_at}
+use Rattle.rules.specs.File.{bands_from, point_at}
 use Rattle.rules.proofs.Exits.{handed_on}
 use Rattle.rules.proofs.Positions.{point_forward}
 use Rattle.records.proofs.Skip.{transfers_are, meters_end, meters_small}
@@ -16,7 +16,7 @@ pub charged_days-days-requires : goal.charged_days-days-requires
 charged_days-days-requires c =
     let file = c.args.file.now in
     let good = file.good in
-    (year_from_lem _ good {start = bands_at} (file.header, refl), year_to_lem _ good {start = bands_at} (file.header, refl))
+    (year_from_lem _ good {start = bands_from _} (file.header, refl), year_to_lem _ good {start = bands_from _} (file.header, refl))
 
 pub put_transfers-requires : goal.put_transfers-requires
 put_transfers-requires c = point_sound c.point_lists-lists.ensures c.charged_days-days.ensures c.requires.0 c.requires.1
