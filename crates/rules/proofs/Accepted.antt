@@ -199,9 +199,10 @@ sound_good form b s =
     let from = bands_at form in
     let k = rw (placed_file form f) at s.records in
     let range = k.0.1.1.0 in
-    let v = apart (bits_of b) from (after_bands from t.bands) (in_turn band none t.bands) (point_records t.service none f.points) (bands_end from t.bands) k.1 in
+    let points_from = after_bands from t.bands in
+    let v = apart (bits_of b) from points_from (in_turn band none t.bands) (point_records t.service none f.points) (bands_end from t.bands) k.1 in
     let bs = good_bands (bits_of b) from none t.bands v.0 k.0.0 in
-    let ps = good_points (bits_of b) t.service (after_bands from t.bands) none f.points v.1 bs.within in
+    let ps = good_points (bits_of b) t.service points_from none f.points v.1 bs.within in
     let header : GoodHeader form (file_header f) =
     record {
       marked = k.0.1.0.0;

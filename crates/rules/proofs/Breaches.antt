@@ -260,26 +260,33 @@ module _ (file : List ℕ) (end : ℕ) where
       go true e = absurd (nn (unpadded_true e))
       go false e = unpadded_tries.0 e
 
+  padding_says : (then : ℕ) {Then : ℕ → Type 0} → Says then Then →
+      Says (first_or (padding_number file end ∷ []) then) (First (¬ Padded file end) 12 Then)
+  unfolding padding_number first_or
+  padding_says then says = rw (first_when unpadded 11 0 then) (when_says unpadded 12 then unpadded_true (λ e np. np (unpadded_tries.0 e)) says)
+
+-- 0 is no breach's number
+no_breach : {Clean : Type 0} {last : ℕ} → ((1 ≤ 0) × (0 ≤ last)) ⊎ (Clean × NoBreach 0) → Clean
+no_breach (inl x) = absurd (omega (arith, x.0))
+no_breach (inr x) = x.0
+
 -- read by any form
 module _ (form : Form) (file : List ℕ) where
-  padding_says : (then : ℕ) {Then : ℕ → Type 0} → Says then Then → (end : ℕ) → Says (first_or (padding_number file end ∷ []) then) (First (¬ Padded file end) 12 Then)
-  unfolding padding_number first_or
-  padding_says then says end =
-      rw (first_when (unpadded file end) 11 0 then)
-      (when_says (unpadded file end) 12 then (unpadded_true file end) (λ e np. np ((unpadded_tries file end).0 e)) says)
-
   file_says : (then : ℕ) {Then : ℕ → Type 0} → Says then Then → Says (first_or (file_refusal_in form file ∷ []) then) (FileBreachIn form file Then)
   unfolding file_refusal_in
   file_says then says =
+      let padded = padding_says file (records_end form file) then says in
       rw (first_when, first_first, ← points_last form file)
-      (over_says 65536 (length file) 1 _ (records_say _ (padding_says then says (records_end form file)) (file_numbered (bits_of file) form (decode_in form file))))
+      (over_says 65536 (length file) 1 _ (records_say _ padded (file_numbered (bits_of file) form (decode_in form file))))
 
   -- 13 comes after 1 to 12
-  refusal_then : (then : ℕ) → first_or (refusal_in form file ∷ []) then ≡ first_or (file_refusal_in form file ∷ []) (when (ltb 64 (providers_in form file)) 13 then)
+  refusal_then : (then : ℕ) →
+      first_or (refusal_in form file ∷ []) then ≡ first_or (file_refusal_in form file ∷ []) (when (ltb 64 (providers_in form file)) 13 then)
   unfolding refusal_in first_or
   refusal_then then =
       let crowded = ltb 64 (providers_in form file) in
-      first_first (file_refusal_in form file ∷ []) (when crowded 13 0) then ∙ ap (λ n. first_or (file_refusal_in form file ∷ []) n) (first_when crowded 12 0 then)
+      let numbers = file_refusal_in form file ∷ [] in
+      first_first numbers (when crowded 13 0) then ∙ ap (first_or numbers) (first_when crowded 12 0 then)
 
   -- 1 to 13, and what comes after them
   pub breach_says : (then : ℕ) {Then : ℕ → Type 0} → Says then Then → Says (first_or (refusal_in form file ∷ []) then) (FirstBreachIn form file Then)
@@ -303,7 +310,8 @@ module _ (form : Form) (file : List ℕ) where
   pub breach_or : {Then : ℕ → Type 0} {n : ℕ} → FirstBreachIn form file Then n → ((1 ≤ n) × (n ≤ 13)) ⊎ (LawfulIn form file × Then n)
   breach_or {Then} {n} b = go (file_or b)
     where
-      go : ((1 ≤ n) × (n ≤ 12)) ⊎ (SoundIn form file × First (64 < providers_in form file) 13 Then n) → ((1 ≤ n) × (n ≤ 13)) ⊎ (LawfulIn form file × Then n)
+      go : ((1 ≤ n) × (n ≤ 12)) ⊎ (SoundIn form file × First (64 < providers_in form file) 13 Then n) →
+          ((1 ≤ n) × (n ≤ 13)) ⊎ (LawfulIn form file × Then n)
       go (inl x) = inl (x.0, omega (arith, x.1))
       go (inr (sound, here crowded e)) = inl (omega arith, omega arith)
       go (inr (sound, past few then)) = inr (record { sound = sound; few = omega arith }, then)
@@ -314,16 +322,8 @@ module _ (form : Form) (file : List ℕ) where
       past (λ long. omega (arith, s.short)) (beyond s.records (past (λ unpadded. unpadded s.padded) (past (λ crowded. omega (arith, l.few)) then)))
 
   pub accepted_lawful : (refusal_in form file ≡ 0) ↔ LawfulIn form file
-  accepted_lawful = (λ e. only (breach_or ((first_breach 0).0 e)), λ l. (first_breach 0).1 (lawful_past l refl))
-    where
-      only : ((1 ≤ 0) × (0 ≤ 13)) ⊎ (LawfulIn form file × NoBreach 0) → LawfulIn form file
-      only (inl x) = absurd (omega (arith, x.0))
-      only (inr x) = x.0
+  accepted_lawful = (λ e. no_breach (breach_or ((first_breach 0).0 e)), λ l. (first_breach 0).1 (lawful_past l refl))
 
   -- none of 1 to 12
   pub accepted_sound : file_refusal_in form file ≡ 0 → SoundIn form file
-  accepted_sound e = only (file_or (((rw first_alone at (file_says 0 none_says)) 0).0 e))
-    where
-      only : ((1 ≤ 0) × (0 ≤ 12)) ⊎ (SoundIn form file × NoBreach 0) → SoundIn form file
-      only (inl x) = absurd (omega (arith, x.0))
-      only (inr x) = x.0
+  accepted_sound e = no_breach (file_or (((rw first_alone at (file_says 0 none_says)) 0).0 e))

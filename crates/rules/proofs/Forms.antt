@@ -36,7 +36,7 @@ read_by : (form : Form) (bytes : List ℕ) → form_at bytes ≡ form → ReadBy
 read_by form bytes e = record { file = ap (λ form. decode_in form bytes) e; number = ap (λ form. refusal_in form bytes) e }
 
 -- ANY OTHER VERSION is 3, where the header is there
-another_version : (version : ℕ) → (version ≡ 1 → ⊥) → (version ≡ 2 → ⊥) → eqb version (form_of version).version ≡ false
+another_version : (version : ℕ) → ¬ (version ≡ 1) → ¬ (version ≡ 2) → eqb version (form_of version).version ≡ false
 unfolding form_of
 another_version version one two = simp (ne_eqb version 1 one) (ne_eqb version 2 two)
 
@@ -48,14 +48,18 @@ other_versions : (bytes : List ℕ) → length bytes ≤ 65536 → 14 ≤ length
 unfolding refusal_in file_refusal_in file_numbers header_rule first_or decode_in
 other_versions bytes short long one two =
     let form = form_at bytes in
-    let room : bands_at form ≤ length bytes * 8 = either_form (λ form. bands_at form ≤ length bytes * 8) (omega arith) (omega arith) (version_at bytes) in
+    let bits = length bytes * 8 in
+    let room : bands_at form ≤ bits = either_form (λ form. bands_at form ≤ bits) (omega arith) (omega arith) (version_at bytes) in
     let wrong = not_both (eqb (field bytes 0 16) 0x5753) (eqb (version_at bytes) form.version) (another_version (version_at bytes) one two) in
-    simp (le-ltb 65536 (length bytes) short, le-ltb (length bytes * 8) (bands_at form) room, wrong)
+    simp (le-ltb 65536 (length bytes) short, le-ltb bits (bands_at form) room, wrong)
 
 -- an accepted file has the version of the form that it is read by
 known : (bytes : List ℕ) → Accepted bytes → (version_at bytes ≡ 1) ⊎ (version_at bytes ≡ 2)
 unfolding decode_in
-known bytes h = either_form (λ form. version_at bytes ≡ form.version → (version_at bytes ≡ 1) ⊎ (version_at bytes ≡ 2)) inl inr (version_at bytes) (accepted_good (form_at bytes) bytes h).header.version
+known bytes h =
+    let version = version_at bytes in
+    let good = accepted_good (form_at bytes) bytes h in
+    either_form (λ form. version ≡ form.version → (version ≡ 1) ⊎ (version ≡ 2)) inl inr version good.header.version
 
 pub versions : Versions
 unfolding form_of

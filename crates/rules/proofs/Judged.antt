@@ -79,7 +79,8 @@ undrained service property roads = in_water service (or (λ h. h, λ h. h) (λ h
 -- RANGES
 header_range : (form : Form) (h : Header) → Tries (header_outside form h) (HeaderInRange form h)
 header_range form h =
-    let f = or (or (or (or (or (or (or (inside 2020 h.year 2098) (inside 1 h.bands 24)) (inside 1 h.points form.most_points)) (not_above 10000 h.property))
+    let f = or (or (or (or (or (or (or (inside 2020 h.year 2098) (inside 1 h.bands 24)) (inside 1 h.points form.most_points))
+    (not_above 10000 h.property))
     (not_above 10000 h.roads))
     (dry h.service h.property h.roads))
     (not_above 100000 h.capacity))
@@ -246,7 +247,8 @@ module _ (bits next : ℕ) where
 
   pub header_gives : (form : Form) (h : Header) → Gives (header form h) (header_rule form bits next h)
   unfolding header_rule rules_for
-  header_gives form h = judge 2 refl (not_above bits next) (judge 3 refl (both h.mark 0x5753 h.version form.version) (judge 4 refl (header_range form h) clear))
+  header_gives form h =
+      judge 2 refl (not_above bits next) (judge 3 refl (both h.mark 0x5753 h.version form.version) (judge 4 refl (header_range form h) clear))
 
   pub point_gives : (before : Option PointHead) (p : PointHead) → Gives (point before p) (point_rule bits next (least_after (λ p. p.number) before) p)
   unfolding point_rule rules_for

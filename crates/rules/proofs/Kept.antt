@@ -173,8 +173,9 @@ refused file place (suc n) e h = rw (e, statement_answer)
 
 pub same_statements : SameStatements
 same_statements a b ha hb alike place =
-    answered a ha place
-    ∙ (ap₂ (λ t s. statement_at t s place) (same_tariff (decode a) (decode b) alike) (same_supplies (decode a) (decode b) alike) ∙ sym (answered b hb place))
+    let tariff = same_tariff (decode a) (decode b) alike in
+    let supplied = same_supplies (decode a) (decode b) alike in
+    answered a ha place ∙ (ap₂ (λ t s. statement_at t s place) tariff supplied ∙ sym (answered b hb place))
 
 -- SERVICES
 -- what is accepted is refused by nothing that has room for it
@@ -227,4 +228,10 @@ kept form bytes h =
     }
 
 pub demand_3 : Demand3
-demand_3 = record { kept = kept; same = λ form a b. same (decode_in form a) (decode_in form b); served = served; alike = same_statements }
+demand_3 =
+    record {
+      kept = kept;
+      same = λ form a b. same (decode_in form a) (decode_in form b);
+      served = served;
+      alike = same_statements;
+    }

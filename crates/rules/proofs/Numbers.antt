@@ -30,7 +30,8 @@ room_says file room wanted = breach_says (form_at file) file _ (over_says room w
 module _ {file : List ℕ} {Own : Type 0} {last : ℕ} where
   -- it is 0 exactly where the file is lawful and the service's own breach is not there
   pub none_free : {v : ℕ} → Says v (FirstBreach file (First Own last NoBreach)) → 1 ≤ last → (v ≡ 0) ↔ (Lawful file × ¬ Own)
-  none_free says some = (λ e. go (breach_or (form_at file) file ((says 0).0 e)), λ x. (says 0).1 (lawful_past (form_at file) file x.0 (past x.1 refl)))
+  none_free says some =
+      (λ e. go (breach_or (form_at file) file ((says 0).0 e)), λ x. (says 0).1 (lawful_past (form_at file) file x.0 (past x.1 refl)))
     where
       go : ((1 ≤ 0) × (0 ≤ 13)) ⊎ (Lawful file × First Own last NoBreach 0) → Lawful file × ¬ Own
       go (inl x) = absurd (omega (arith, x.0))

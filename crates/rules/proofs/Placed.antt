@@ -97,12 +97,15 @@ header_end : (form : Form) (h : Header) → 0 + width (header form h) ≡ bands_
 unfolding width
 header_end form h = omega arith
 
-pub placed_file : (form : Form) (f : File) → placed 0 (file_records form f) ≡ record { what = header form (file_header f); next = bands_at form } ∷ placed (bands_at form) (after_header f)
+pub placed_file : (form : Form) (f : File) →
+    placed 0 (file_records form f)
+    ≡ record { what = header form (file_header f); next = bands_at form } ∷ placed (bands_at form) (after_header f)
 unfolding file_records placed
 placed_file form f = ap (λ k. record { what = header form (file_header f); next = k } ∷ placed k (after_header f)) (header_end form (file_header f))
 
 -- what stands after the last record, by the positions of `File`
-pub points_last : (form : Form) (file : List ℕ) → records_end form file ≡ after_points (after_bands (bands_at form) (decode_in form file).tariff.bands) (decode_in form file).points
+pub points_last : (form : Form) (file : List ℕ) →
+    records_end form file ≡ after_points (after_bands (bands_at form) (decode_in form file).tariff.bands) (decode_in form file).points
 unfolding file_records after
 points_last form file =
     let f = decode_in form file in
