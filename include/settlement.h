@@ -10,8 +10,8 @@ extern "C" {
 #endif
 
 /*
- * Settles a file and writes its report. The file is of version 1, with up to 64 points, or of version 2, with up to 256; of either it
- * may have 65,536 bytes and 64 providers with a charged day.
+ * Settles a file and writes its report. The file is of version 1, with up to 64 points, or of version 2, with up to 256. Either may have
+ * up to 65,536 bytes, and up to 64 providers with a charged day.
  *
  * The answer is one number. From 52 on it is the length of the report, which stands at the front of `space`. Below 52 it is a refusal: the number
  * of the first breach in the documents' order, from 1 to 14. No report is under 52 bytes and no refusal over 14, so the two don't collide.

@@ -11,7 +11,6 @@ use Rattle.rules.specs.declared.Breach.{Breach}
 use Rattle.rules.specs.declared.Header.{Header}
 use Rattle.rules.specs.declared.PointHead.{PointHead}
 use Rattle.rules.specs.declared.MeterHead.{MeterHead}
-use Rattle.rules.specs.declared.Form.{Form}
 use Rattle.rules.specs.Form.{form_of}
 use Rattle.rules.specs.File.{header_at, bands_from}
 use Rattle.rules.specs.Refusal.{header_rule, band_rule, point_rule, transfer_rule, condition_rule, meter_rule, read_rule, padding_number, first_or, file_refusal_in, file_refusal}
@@ -98,14 +97,14 @@ pub too_long : (b : List ℕ) → 65536 < length b → 1 ≡ file_refusal b
 unfolding file_refusal_in
 too_long b h = simp (lt-ltb _ _ h)
 
-module _ (b : List ℕ) {v : Header} {next : ℕ} {form : Form} (short : length b ≤ 65536) (f : (v ≡ header_at b) × (next ≡ bands_from b)) (own : form ≡ form_of v.version) where
-  judged_header : {number : ℕ} → number ≡ header_rule form (end b) next v → file_refusal b ≡ first_or (number ∷ []) (rest_number b (opened v) next)
-  judged_header j = rw (j, own, f.1, f.0) (file_turn b short)
+module _ (b : List ℕ) {v : Header} {next : ℕ} (short : length b ≤ 65536) (f : (v ≡ header_at b) × (next ≡ bands_from b)) where
+  judged_header : {number : ℕ} → number ≡ header_rule (form_of v.version) (end b) next v → file_refusal b ≡ first_or (number ∷ []) (rest_number b (opened v) next)
+  judged_header j = rw (j, f.1, f.0) (file_turn b short)
 
-  pub header_stops : (breach : Breach) → number_of breach ≡ header_rule form (end b) next v → number_of breach ≡ file_refusal b
+  pub header_stops : (breach : Breach) → number_of breach ≡ header_rule (form_of v.version) (end b) next v → number_of breach ≡ file_refusal b
   header_stops breach j = sym (judged_header j ∙ first_stop _ _ (positive breach))
 
-  pub opens : 0 ≡ header_rule form (end b) next v → At b next (opened v)
+  pub opens : 0 ≡ header_rule (form_of v.version) (end b) next v → At b next (opened v)
   unfolding header_rule
   opens j = record { whole = judged_header j ∙ first_go _; short = short; within = lacks_none (end b) next _ (sym j) }
 

@@ -7,7 +7,7 @@ ghost use Rattle.rules.specs.Refusal.{padding_number, file_refusal};
 use bits::Cursor;
 use judges::{Dial, ReadLimits};
 use records::{Checked, Records};
-use rules::{Breach, Day, Form};
+use rules::{Breach, Day};
 
 // The most bytes of a file.
 const MOST_BYTES: usize = 65536;
@@ -44,7 +44,7 @@ pub fn check(file: &[u8]) -> Result<Checked, Breach>
     let end = file.len() * 8;
     let header = records::header(file);
     let head = header.value;
-    judges::header(Form::of(head.version), end, header.next.at, head)?;
+    judges::header(end, header.next.at, head)?;
     let mut c = header.next;
     'file: {
         let mut least: u64 = 0;

@@ -1,19 +1,21 @@
 -- Which form a file is read by: version 1 as document 01 has it, version 2 by its wider count, and any other version is breach 3. Assumes nothing.
 use Prim.Native.Nat.{ℕ, ◌*◌, ◌≤◌}
 use mathlib.Core.Bool.{Bool, true, false, cond, ◌&&◌, not}
-use mathlib.Core.Path.{◌≡◌, refl, ap}
+use mathlib.Core.Path.{◌≡◌, refl, sym, ap, ◌∙◌}
 use mathlib.Core.Logic.{◌⊎◌, inl, inr}
 use mathlib.Core.List.{List}
 use native.Mathlib.Omega.{arith}
 use lib.Dec.{eqb}
 use lib.ListN.{length}
-use borrow.Author.Tests.{le-ltb, ne_eqb}
+use borrow.Author.Tests.{le-ltb, eq-eqb, ne_eqb}
 use Rattle.rules.specs.Field.{field}
 use Rattle.rules.specs.declared.Form.{Form}
 use Rattle.rules.specs.Form.{form1, form2, form_of, version_at, form_at}
-use Rattle.rules.specs.File.{bands_at, decode_in}
-use Rattle.rules.specs.Refusal.{header_rule, file_numbers, first_or, file_refusal_in, refusal_in, refusal}
-use Rattle.rules.specs.Promises.{Accepted, ReadBy, Versions}
+use Rattle.rules.specs.File.{header_at, file_header, bands_at, point_at, after_point, decode_in, decode}
+use Rattle.rules.specs.Refusal.{header_outside, header_rule, file_numbers, first_or, file_refusal_in, refusal_in, refusal}
+use Rattle.rules.specs.Promises.{Accepted, ReadBy, HasHeader, CountTo, Versions}
+use Rattle.rules.proofs.Positions.{length_records}
+use Rattle.rules.proofs.Judged.{header_range}
 use Rattle.rules.proofs.Kept.{accepted_good}
 
 -- what is said of both forms is said of every file's
@@ -44,22 +46,73 @@ not_both : (s t : Bool) → t ≡ false → not (s && t) ≡ true
 not_both true t h = simp h
 not_both false t h = refl
 
-other_versions : (bytes : List ℕ) → length bytes ≤ 65536 → 14 ≤ length bytes → ¬ (version_at bytes ≡ 1) → ¬ (version_at bytes ≡ 2) → refusal bytes ≡ 3
-unfolding refusal_in file_refusal_in file_numbers header_rule first_or decode_in
-other_versions bytes short long one two =
-    let form = form_at bytes in
+-- a header has room in the file, by whichever form
+has_room : (bytes : List ℕ) → HasHeader bytes → bands_at (form_at bytes) ≤ length bytes * 8
+has_room bytes h =
     let bits = length bytes * 8 in
-    let room : bands_at form ≤ bits = either_form (λ form. bands_at form ≤ bits) (omega arith) (omega arith) (version_at bytes) in
-    let wrong = not_both (eqb (field bytes 0 16) 0x5753) (eqb (version_at bytes) form.version) (another_version (version_at bytes) one two) in
-    simp (le-ltb 65536 (length bytes) short, le-ltb bits (bands_at form) room, wrong)
+    either_form (λ form. bands_at form ≤ bits) (omega (arith, h.1)) (omega (arith, h.1)) (version_at bytes)
 
--- an accepted file has the version of the form that it is read by
-known : (bytes : List ℕ) → Accepted bytes → (version_at bytes ≡ 1) ⊎ (version_at bytes ≡ 2)
+other_versions : (bytes : List ℕ) → HasHeader bytes → ¬ (version_at bytes ≡ 1) → ¬ (version_at bytes ≡ 2) → refusal bytes ≡ 3
+unfolding refusal_in file_refusal_in file_numbers header_rule first_or decode_in
+other_versions bytes h one two =
+    let form = form_at bytes in
+    let wrong = not_both (eqb (field bytes 0 16) 0x5753) (eqb (version_at bytes) form.version) (another_version (version_at bytes) one two) in
+    simp (le-ltb 65536 (length bytes) h.0, le-ltb (length bytes * 8) (bands_at form) (has_room bytes h), wrong)
+
+-- A COUNT OUTSIDE ITS RANGE is 4
+either_way : (t : Bool) → ¬ (t ≡ false) → t ≡ true
+either_way true h = refl
+either_way false h = absurd (h refl)
+
+-- the file's version and how many points it has are what its header says
+own_version : (bytes : List ℕ) → version_at bytes ≡ (decode bytes).version
 unfolding decode_in
-known bytes h =
+own_version bytes = refl
+
+many : (bytes : List ℕ) → length (decode bytes).points ≡ (header_at bytes).points
+unfolding decode_in
+many bytes = length_records (point_at bytes) after_point (header_at bytes).points _
+
+outside_count : (bytes : List ℕ) → ¬ CountTo (form_at bytes).most_points bytes → header_outside (form_at bytes) (file_header (decode bytes)) ≡ true
+outside_count bytes out =
+    let form = form_at bytes in
+    let h = file_header (decode bytes) in
+    either_way (header_outside form h) (λ e. out (rw (many bytes) at ((header_range form h).0 e).2))
+
+other_count : (bytes : List ℕ) → HasHeader bytes → (header_at bytes).mark ≡ 0x5753 → version_at bytes ≡ (form_at bytes).version →
+    ¬ CountTo (form_at bytes).most_points bytes → refusal bytes ≡ 4
+unfolding refusal_in file_refusal_in file_numbers header_rule first_or decode_in
+other_count bytes h marked version out =
+    let form = form_at bytes in
+    simp (
+      le-ltb 65536 (length bytes) h.0,
+      le-ltb (length bytes * 8) (bands_at form) (has_room bytes h),
+      eq-eqb _ _ marked,
+      eq-eqb _ _ version,
+      outside_count bytes out,
+    )
+
+counts : (bytes : List ℕ) → HasHeader bytes → (header_at bytes).mark ≡ 0x5753 →
+    ((version_at bytes ≡ 1) × ¬ CountTo 64 bytes) ⊎ ((version_at bytes ≡ 2) × ¬ CountTo 256 bytes) → refusal bytes ≡ 4
+unfolding form_of
+counts bytes h marked (inl (one, out)) =
+    let own : form_at bytes ≡ form1 = rw one refl in
+    other_count bytes h marked (one ∙ sym (ap (λ form. form.version) own)) (λ x. out (x.0, omega (arith, x.1, ap (λ form. form.most_points) own)))
+counts bytes h marked (inr (two, out)) =
+    let own : form_at bytes ≡ form2 = rw two refl in
+    other_count bytes h marked (two ∙ sym (ap (λ form. form.version) own)) (λ x. out (x.0, omega (arith, x.1, ap (λ form. form.most_points) own)))
+
+-- an accepted file has the version of the form that it is read by, and its count is within the form's range
+known : (bytes : List ℕ) → Accepted bytes → ((version_at bytes ≡ 1) × CountTo 64 bytes) ⊎ ((version_at bytes ≡ 2) × CountTo 256 bytes)
+known bytes a =
+    let g = (accepted_good (form_at bytes) bytes a).header in
     let version = version_at bytes in
-    let good = accepted_good (form_at bytes) bytes h in
-    either_form (λ form. version ≡ form.version → (version ≡ 1) ⊎ (version ≡ 2)) inl inr version good.header.version
+    either_form (λ form. version ≡ form.version → CountTo form.most_points bytes → ((version ≡ 1) × CountTo 64 bytes) ⊎ ((version ≡ 2) × CountTo 256 bytes))
+    (λ one within. inl (one, within))
+    (λ two within. inr (two, within))
+    version
+    (own_version bytes ∙ g.version)
+    (rw (many bytes) at g.some_points, rw (many bytes) at g.few_points)
 
 pub versions : Versions
 unfolding form_of
@@ -69,4 +122,5 @@ versions =
       second = λ bytes e. read_by form2 bytes (rw e);
       known = known;
       others = other_versions;
+      counts = counts;
     }

@@ -77,7 +77,7 @@ undrained : (service : Service) (property roads : Bool) → Tries (is_water serv
 undrained service property roads = in_water service (or (λ h. h, λ h. h) (λ h. h, λ h. h))
 
 -- RANGES
-header_range : (form : Form) (h : Header) → Tries (header_outside form h) (HeaderInRange form h)
+pub header_range : (form : Form) (h : Header) → Tries (header_outside form h) (HeaderInRange form h)
 header_range form h =
     let f = or (or (or (or (or (or (or (inside 2020 h.year 2098) (inside 1 h.bands 24)) (inside 1 h.points form.most_points))
     (not_above 10000 h.property))

@@ -13,7 +13,7 @@ use Rattle.rules.specs.declared.Condition.{Condition}
 use Rattle.rules.specs.declared.MeterHead.{MeterHead}
 use Rattle.rules.specs.declared.Read.{Read}
 use Rattle.rules.specs.declared.Form.{Form}
-use Rattle.rules.specs.File.{Meter, Point, File, meter_head, point_head, file_header, bands_at, after_bands, transfers_from, after_transfers, after_conditions, reads_from, after_reads, after_meter, after_meters, after_point, after_points, after, decode_in}
+use Rattle.rules.specs.File.{Meter, Point, File, meter_head, point_head, file_header, bands_at, band_bits, transfer_bits, condition_bits, read_bits, after_bands, transfers_from, after_transfers, after_conditions, reads_from, after_reads, after_meter, after_meters, after_point, after_points, after, decode_in}
 use Rattle.rules.specs.Lawful.{Record, header, band, transfer, condition, read, in_turn, meter_records, point_records, file_records, width, placed, records_end}
 
 -- the position after some records
@@ -39,19 +39,19 @@ ends_turn make w each at before (a ∷ rest) = ap (λ n. ends (at + n) (in_turn 
 
 pub transfers_end : (connected at : ℕ) (ts : List Transfer) → ends at (in_turn (transfer connected) none ts) ≡ after_transfers at ts
 unfolding width
-transfers_end connected at ts = ends_turn (transfer connected) 32 (λ before t. refl) at none ts
+transfers_end connected at ts = ends_turn (transfer connected) transfer_bits (λ before t. refl) at none ts
 
 pub conditions_end : (service : Service) (at : ℕ) (cs : List Condition) → ends at (in_turn (condition service) none cs) ≡ after_conditions at cs
 unfolding width
-conditions_end service at cs = ends_turn (condition service) 72 (λ before c. refl) at none cs
+conditions_end service at cs = ends_turn (condition service) condition_bits (λ before c. refl) at none cs
 
 pub bands_end : (at : ℕ) (bs : List Band) → ends at (in_turn band none bs) ≡ after_bands at bs
 unfolding width
-bands_end at bs = ends_turn band 90 (λ before b. refl) at none bs
+bands_end at bs = ends_turn band band_bits (λ before b. refl) at none bs
 
 pub reads_end : (m : MeterHead) (at : ℕ) (rs : List Read) → ends at (in_turn (read m) none rs) ≡ after_reads at rs
 unfolding width
-reads_end m at rs = ends_turn (read m) 44 (λ before r. refl) at none rs
+reads_end m at rs = ends_turn (read m) read_bits (λ before r. refl) at none rs
 
 pub meters_end : (service : Service) (at : ℕ) (ms : List Meter) → ends at (meter_records service ms) ≡ after_meters at ms
 unfolding after meter_records width

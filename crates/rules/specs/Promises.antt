@@ -9,9 +9,9 @@ use Rattle.rules.specs.Lists.{All, Some, Lists, IsLatest}
 use Rattle.rules.specs.Calendar.{april_first}
 use Rattle.rules.specs.declared.Form.{Form}
 use Rattle.rules.specs.Form.{form1, form2, version_at, form_at}
-use Rattle.rules.specs.File.{Tariff, Supply, Point, File, decode_in, decode}
+use Rattle.rules.specs.File.{Tariff, Supply, Point, File, header_at, decode_in, decode}
 use Rattle.rules.specs.Refusal.{refusal_in, refusal}
-use Rattle.rules.specs.Lawful.{Sound, Lawful, First, NoBreach, FirstBreach}
+use Rattle.rules.specs.Lawful.{Between, Sound, Lawful, First, NoBreach, FirstBreach}
 use Rattle.rules.specs.Charges.{over_charged, Charge, charges}
 use Rattle.rules.specs.Settlement.{amount, point_charge, statement, provider_on, over_providers, provider_charge, provider_at, providers_of, rows}
 use Rattle.rules.specs.Report.{report}
@@ -190,10 +190,20 @@ pub record ReadBy (form : Form) (bytes : List ℕ) : Type 0 where
   pub file : decode bytes ≡ decode_in form bytes
   pub number : refusal bytes ≡ refusal_in form bytes
 
--- "Version 1 files are read as before, and version 4-bit values other than 1 and 2 are still number 3": no file of another version is accepted,
--- and the number is 3 where the file is not too long and has the 14 bytes that a header takes in either version, as 1 and 2 come before it.
+-- A file that is not too long and has the 14 bytes that a header takes in either version: 1 and 2 come before what the header says.
+abbrev pub HasHeader : List ℕ → Type 0
+HasHeader bytes = (length bytes ≤ 65536) × (14 ≤ length bytes)
+
+-- the header's count of points is from 1 to a most: document 01's "points 7 (1 to 64)", P1's "9 bits (1 to 256)"
+abbrev pub CountTo : ℕ → List ℕ → Type 0
+CountTo most bytes = Between 1 most (header_at bytes).points
+
+-- "Version 1 files are read as before", by the form that document 01 gives, and version 2 by its own. "Version 4-bit values other than 1 and 2 are
+-- still number 3." A count outside its version's range is 4, whatever its bits could hold.
 pub record Versions : Type 0 where
   pub first : (bytes : List ℕ) → version_at bytes ≡ 1 → ReadBy form1 bytes
   pub second : (bytes : List ℕ) → version_at bytes ≡ 2 → ReadBy form2 bytes
-  pub known : (bytes : List ℕ) → Accepted bytes → (version_at bytes ≡ 1) ⊎ (version_at bytes ≡ 2)
-  pub others : (bytes : List ℕ) → length bytes ≤ 65536 → 14 ≤ length bytes → ¬ (version_at bytes ≡ 1) → ¬ (version_at bytes ≡ 2) → refusal bytes ≡ 3
+  pub known : (bytes : List ℕ) → Accepted bytes → ((version_at bytes ≡ 1) × CountTo 64 bytes) ⊎ ((version_at bytes ≡ 2) × CountTo 256 bytes)
+  pub others : (bytes : List ℕ) → HasHeader bytes → ¬ (version_at bytes ≡ 1) → ¬ (version_at bytes ≡ 2) → refusal bytes ≡ 3
+  pub counts : (bytes : List ℕ) → HasHeader bytes → (header_at bytes).mark ≡ 0x5753 →
+      ((version_at bytes ≡ 1) × ¬ CountTo 64 bytes) ⊎ ((version_at bytes ≡ 2) × ¬ CountTo 256 bytes) → refusal bytes ≡ 4

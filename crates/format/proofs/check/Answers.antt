@@ -12,10 +12,10 @@ returns-then-file-gt-MOST_BYTES-clause-number c = too_long _ c.if-file-gt-MOST_B
 
 pub returns-in_err-header-clause-number : goal.returns-in_err-header-clause-number
 returns-in_err-header-clause-number c = rw (handed_on c.from_residual.ensures.1)
-    (header_stops _ c.if-file-gt-MOST_BYTES.false c.header-header.ensures c.of.ensures _ c.in_err-header.ensures)
+    (header_stops _ c.if-file-gt-MOST_BYTES.false c.header-header.ensures _ c.in_err-header.ensures)
 
 pub bands-init : goal.bands-init
-bands-init c = opens _ c.if-file-gt-MOST_BYTES.false c.header-header.ensures c.of.ensures c.in_ok-header.ensures
+bands-init c = opens _ c.if-file-gt-MOST_BYTES.false c.header-header.ensures c.in_ok-header.ensures
 
 pub overflow_add-least : goal.overflow_add-least
 overflow_add-least c = omega (arith, has_room c.bands.invariant c.bands-test.true c.band-band.ensures)
