@@ -79,35 +79,31 @@ outside_count bytes out =
     let h = file_header (decode bytes) in
     either_way (header_outside form h) (λ e. out (rw (many bytes) at ((header_range form h).0 e).2))
 
-other_count : (bytes : List ℕ) → HasHeader bytes → (header_at bytes).mark ≡ 0x5753 → version_at bytes ≡ (form_at bytes).version →
-    ¬ CountTo (form_at bytes).most_points bytes → refusal bytes ≡ 4
+other_count : (form : Form) (bytes : List ℕ) → form_at bytes ≡ form → HasHeader bytes → (header_at bytes).mark ≡ 0x5753 →
+    version_at bytes ≡ form.version → ¬ CountTo form.most_points bytes → refusal bytes ≡ 4
 unfolding refusal_in file_refusal_in file_numbers header_rule first_or decode_in
-other_count bytes h marked version out =
-    let form = form_at bytes in
+other_count form bytes own h marked version out =
     simp (
       le-ltb 65536 (length bytes) h.0,
-      le-ltb (length bytes * 8) (bands_at form) (has_room bytes h),
+      le-ltb (length bytes * 8) (bands_at (form_at bytes)) (has_room bytes h),
       eq-eqb _ _ marked,
-      eq-eqb _ _ version,
-      outside_count bytes out,
+      eq-eqb _ _ (version ∙ sym (ap (λ form. form.version) own)),
+      outside_count bytes (λ x. out (x.0, omega (arith, x.1, ap (λ form. form.most_points) own))),
     )
 
 counts : (bytes : List ℕ) → HasHeader bytes → (header_at bytes).mark ≡ 0x5753 →
     ((version_at bytes ≡ 1) × ¬ CountTo 64 bytes) ⊎ ((version_at bytes ≡ 2) × ¬ CountTo 256 bytes) → refusal bytes ≡ 4
 unfolding form_of
-counts bytes h marked (inl (one, out)) =
-    let own : form_at bytes ≡ form1 = rw one refl in
-    other_count bytes h marked (one ∙ sym (ap (λ form. form.version) own)) (λ x. out (x.0, omega (arith, x.1, ap (λ form. form.most_points) own)))
-counts bytes h marked (inr (two, out)) =
-    let own : form_at bytes ≡ form2 = rw two refl in
-    other_count bytes h marked (two ∙ sym (ap (λ form. form.version) own)) (λ x. out (x.0, omega (arith, x.1, ap (λ form. form.most_points) own)))
+counts bytes h marked (inl (one, out)) = other_count form1 bytes (rw one refl) h marked one out
+counts bytes h marked (inr (two, out)) = other_count form2 bytes (rw two refl) h marked two out
 
 -- an accepted file has the version of the form that it is read by, and its count is within the form's range
 known : (bytes : List ℕ) → Accepted bytes → ((version_at bytes ≡ 1) × CountTo 64 bytes) ⊎ ((version_at bytes ≡ 2) × CountTo 256 bytes)
 known bytes a =
     let g = (accepted_good (form_at bytes) bytes a).header in
     let version = version_at bytes in
-    either_form (λ form. version ≡ form.version → CountTo form.most_points bytes → ((version ≡ 1) × CountTo 64 bytes) ⊎ ((version ≡ 2) × CountTo 256 bytes))
+    either_form
+    (λ form. version ≡ form.version → CountTo form.most_points bytes → ((version ≡ 1) × CountTo 64 bytes) ⊎ ((version ≡ 2) × CountTo 256 bytes))
     (λ one within. inl (one, within))
     (λ two within. inr (two, within))
     version
