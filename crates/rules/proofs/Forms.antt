@@ -116,6 +116,7 @@ versions =
     record {
       first = λ bytes e. read_by form1 bytes (rw e);
       second = λ bytes e. read_by form2 bytes (rw e);
+      moved = (refl, refl);
       known = known;
       others = other_versions;
       counts = counts;

@@ -9,7 +9,7 @@ use Rattle.rules.specs.Lists.{All, Some, Lists, IsLatest}
 use Rattle.rules.specs.Calendar.{april_first}
 use Rattle.rules.specs.declared.Form.{Form}
 use Rattle.rules.specs.Form.{form1, form2, version_at, form_at}
-use Rattle.rules.specs.File.{Tariff, Supply, Point, File, header_at, decode_in, decode}
+use Rattle.rules.specs.File.{Tariff, Supply, Point, File, prices_at, header_at, bands_at, decode_in, decode}
 use Rattle.rules.specs.Refusal.{refusal_in, refusal}
 use Rattle.rules.specs.Lawful.{Between, Sound, Lawful, First, NoBreach, FirstBreach}
 use Rattle.rules.specs.Charges.{over_charged, Charge, charges}
@@ -155,7 +155,8 @@ Alike a b = untraded a ≡ untraded b
 
 -- Two accepted files alike except in transfers have the same statements, in all nine figures.
 abbrev pub SameStatements : Type 0
-SameStatements = (a b : List ℕ) → Accepted a → Accepted b → Alike (decode a) (decode b) → (place : ℕ) → statement_answer a place ≡ statement_answer b place
+SameStatements = (a b : List ℕ) → Accepted a → Accepted b → Alike (decode a) (decode b) →
+    (place : ℕ) → statement_answer a place ≡ statement_answer b place
 
 -- SERVICES
 -- The rows are those that the rows service writes, the statements those that the statement service hands back, and the report that which the
@@ -180,7 +181,8 @@ pub record Promised (file : File) : Type 0 where
 -- every form, whatever its width and its most points, and so for the file's own version, by which the services go (`served`, `alike`).
 pub record Demand3 : Type 0 where
   pub kept : (form : Form) (bytes : List ℕ) → AcceptedIn form bytes → Promised (decode_in form bytes)
-  pub same : (form : Form) (a b : List ℕ) → Alike (decode_in form a) (decode_in form b) → statements (decode_in form a) ≡ statements (decode_in form b)
+  pub same : (form : Form) (a b : List ℕ) → Alike (decode_in form a) (decode_in form b) →
+      statements (decode_in form a) ≡ statements (decode_in form b)
   pub served : (bytes : List ℕ) → Accepted bytes → Served bytes
   pub alike : SameStatements
 
@@ -199,10 +201,12 @@ abbrev pub CountTo : ℕ → List ℕ → Type 0
 CountTo most bytes = Between 1 most (header_at bytes).points
 
 -- "Version 1 files are read as before", by the form that document 01 gives, and version 2 by its own. "Version 4-bit values other than 1 and 2 are
--- still number 3." A count outside its version's range is 4, whatever its bits could hold.
+-- still number 3." "Later fields move by two bits": the prices and rates, and the bands, from which the points run on. A count outside its version's
+-- range is 4, whatever its bits could hold.
 pub record Versions : Type 0 where
   pub first : (bytes : List ℕ) → version_at bytes ≡ 1 → ReadBy form1 bytes
   pub second : (bytes : List ℕ) → version_at bytes ≡ 2 → ReadBy form2 bytes
+  pub moved : (prices_at form2 ≡ prices_at form1 + 2) × (bands_at form2 ≡ bands_at form1 + 2)
   pub known : (bytes : List ℕ) → Accepted bytes → ((version_at bytes ≡ 1) × CountTo 64 bytes) ⊎ ((version_at bytes ≡ 2) × CountTo 256 bytes)
   pub others : (bytes : List ℕ) → HasHeader bytes → ¬ (version_at bytes ≡ 1) → ¬ (version_at bytes ≡ 2) → refusal bytes ≡ 3
   pub counts : (bytes : List ℕ) → HasHeader bytes → (header_at bytes).mark ≡ 0x5753 →
