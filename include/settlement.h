@@ -28,7 +28,7 @@ extern "C" {
  * - `file` points to `file_len` bytes that can be read, and `space` to `space_len` bytes that can be written, until the call returns;
  * - the two don't overlap, and nobody else writes to them during the call;
  * - neither pointer is null, even where its length is 0 (any other address will do then; it is not read);
- * - the stack has room. Measured, not proved: a call took at most 14,680 bytes, its return address included, on the eight files of
+ * - the stack has room. Measured, not proved: a call took at most 14,696 bytes, its return address included, on the eight files of
  *   docs/MEASURED.md, part 4 (x86-64, the archive as `rt lib` builds it, glibc's memcpy and memset).
  *
  * A `file_len` of 0 is a file that lacks bits: the answer is 2. A `space_len` of 0 is a space too short: 14, unless the file is refused first.
