@@ -22,7 +22,7 @@ use Rattle.rules.proofs.Positions.{records_wide}
 use Rattle.records.proofs.Ahead.{read_one}
 use Rattle.bands.specs.Bands.{SizesOf}
 
--- BANDS, each of which has as many bits
+-- BANDS, all of one width
 pub band_within : (file : List ℕ) (at : ℕ) {n k : ℕ} → after_bands at (bands file n at) < 2 ^ 32 → k < n → at + k * band_bits < 2 ^ 32
 band_within file at {n} h l = omega (arith, records_wide band_bits (band_at file) n at)
 

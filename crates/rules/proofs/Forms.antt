@@ -1,6 +1,6 @@
 -- Which form a file is read by: version 1 as document 01 has it, version 2 by its wider count, and any other version is breach 3. Assumes nothing.
 use Prim.Native.Nat.{ℕ, ◌*◌, ◌≤◌}
-use mathlib.Core.Bool.{Bool, true, false, cond, ◌&&◌, not}
+use mathlib.Core.Bool.{Bool, true, false, cond}
 use mathlib.Core.Path.{◌≡◌, refl, sym, ap, ◌∙◌}
 use mathlib.Core.Logic.{◌⊎◌, inl, inr}
 use mathlib.Core.List.{List}
@@ -8,7 +8,8 @@ use native.Mathlib.Omega.{arith}
 use lib.Dec.{eqb}
 use lib.ListN.{length}
 use borrow.Author.Tests.{le-ltb, eq-eqb, ne_eqb}
-use Rattle.rules.specs.Field.{field}
+use Rattle.std.proofs.lemmas.Bool.{true_from_ne_false}
+use Rattle.std.proofs.Math.Bool.{and-false}
 use Rattle.rules.specs.declared.Form.{Form}
 use Rattle.rules.specs.Form.{form1, form2, form_of, version_at, form_at}
 use Rattle.rules.specs.File.{header_at, file_header, bands_at, point_at, after_point, decode_in, decode}
@@ -42,10 +43,6 @@ another_version : (version : ℕ) → ¬ (version ≡ 1) → ¬ (version ≡ 2) 
 unfolding form_of
 another_version version one two = simp (ne_eqb version 1 one) (ne_eqb version 2 two)
 
-not_both : (s t : Bool) → t ≡ false → not (s && t) ≡ true
-not_both true t h = simp h
-not_both false t h = refl
-
 -- a header has room in the file, by whichever form
 has_room : (bytes : List ℕ) → HasHeader bytes → bands_at (form_at bytes) ≤ length bytes * 8
 has_room bytes h =
@@ -56,28 +53,28 @@ other_versions : (bytes : List ℕ) → HasHeader bytes → ¬ (version_at bytes
 unfolding refusal_in file_refusal_in file_numbers header_rule first_or decode_in
 other_versions bytes h one two =
     let form = form_at bytes in
-    let wrong = not_both (eqb (field bytes 0 16) 0x5753) (eqb (version_at bytes) form.version) (another_version (version_at bytes) one two) in
-    simp (le-ltb 65536 (length bytes) h.0, le-ltb (length bytes * 8) (bands_at form) (has_room bytes h), wrong)
+    simp (
+      le-ltb 65536 (length bytes) h.0,
+      le-ltb (length bytes * 8) (bands_at form) (has_room bytes h),
+      another_version (version_at bytes) one two,
+      and-false,
+    )
 
 -- A COUNT OUTSIDE ITS RANGE is 4
-either_way : (t : Bool) → ¬ (t ≡ false) → t ≡ true
-either_way true h = refl
-either_way false h = absurd (h refl)
-
 -- the file's version and how many points it has are what its header says
 own_version : (bytes : List ℕ) → version_at bytes ≡ (decode bytes).version
 unfolding decode_in
 own_version bytes = refl
 
-many : (bytes : List ℕ) → length (decode bytes).points ≡ (header_at bytes).points
+points_told : (bytes : List ℕ) → length (decode bytes).points ≡ (header_at bytes).points
 unfolding decode_in
-many bytes = length_records (point_at bytes) after_point (header_at bytes).points _
+points_told bytes = length_records (point_at bytes) after_point (header_at bytes).points _
 
 outside_count : (bytes : List ℕ) → ¬ CountTo (form_at bytes).most_points bytes → header_outside (form_at bytes) (file_header (decode bytes)) ≡ true
 outside_count bytes out =
     let form = form_at bytes in
     let h = file_header (decode bytes) in
-    either_way (header_outside form h) (λ e. out (rw (many bytes) at ((header_range form h).0 e).2))
+    true_from_ne_false (header_outside form h) (λ e. out (rw (points_told bytes) at ((header_range form h).0 e).2))
 
 other_count : (form : Form) (bytes : List ℕ) → form_at bytes ≡ form → HasHeader bytes → (header_at bytes).mark ≡ 0x5753 →
     version_at bytes ≡ form.version → ¬ CountTo form.most_points bytes → refusal bytes ≡ 4
@@ -108,7 +105,7 @@ known bytes a =
     (λ two within. inr (two, within))
     version
     (own_version bytes ∙ g.version)
-    (rw (many bytes) at g.some_points, rw (many bytes) at g.few_points)
+    (rw (points_told bytes) at g.some_points, rw (points_told bytes) at g.few_points)
 
 pub versions : Versions
 unfolding form_of
