@@ -2,7 +2,7 @@
 // A reader for each record of a settlement file: the record at a cursor and the cursor after it, whatever the bytes are. Bits past the end are
 // 0, so nothing is refused here.
 ghost use Rattle.std.specs.Prelude.{◌≡◌, ◌+◌, ◌*◌, ◌<◌, ◌^◌};
-ghost use Rattle.rules.specs.File.{service_of, header_at, band_at, point_head_at, transfer_at, condition_at, meter_head_at, read_at};
+ghost use Rattle.rules.specs.File.{header_at, band_at, point_head_at, transfer_at, condition_at, meter_head_at, read_at};
 ghost use Rattle.rules.specs.File.{bands_from, bands, after_band, after_bands, transfers_from, after_transfer, after_condition, reads_from, after_read};
 ghost use Rattle.rules.specs.File.{meters, after_meters, point_at, after_point};
 ghost use Rattle.rules.specs.Good.{Good};
@@ -101,17 +101,6 @@ impl From<Groups> for Condition {
 // each field, and the fields are cut out of their group. `cut` is given a field's width, as document 01 has it, and how many bits of the group
 // stand after the field.
 
-// The service that a bit stands for.
-fn service_of(bit: u64) -> Service
-    ensures { result ≡ service_of bit }
-{
-    if bit == 0 {
-        Service::Water
-    } else {
-        Service::Sewerage
-    }
-}
-
 // The header, which stands first. Its version says how wide the count of points is, and all that follows stands after that.
 pub fn header(file: &[u8]) -> Taken<Header>
     ensures { (result.value ≡ header_at file.now) × (result.next.at ≡ bands_from file.now) }
@@ -128,7 +117,7 @@ pub fn header(file: &[u8]) -> Taken<Header>
         value: Header {
             mark: cut(opening.value, 16, 22),
             version,
-            service: service_of(cut(opening.value, 1, 17)),
+            service: Service::of(cut(opening.value, 1, 17)),
             year: cut(opening.value, 12, 5),
             bands: cut(opening.value, 5, 0),
             points: points.value,

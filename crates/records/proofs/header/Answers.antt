@@ -16,4 +16,4 @@ pub returns : goal.returns
 returns c = header_taken
     c.of-form.ensures
     c.take-opening.ensures c.take-points.ensures c.take-prices.ensures c.take-rates.ensures
-    c.cut-version.ensures c.cut.ensures c.cut-2.ensures c.service_of.ensures c.cut-3.ensures c.cut-4.ensures c.cut-5.ensures c.cut-6.ensures c.cut-7.ensures c.cut-8.ensures
+    c.cut-version.ensures c.cut.ensures c.cut-2.ensures c.of.ensures c.cut-3.ensures c.cut-4.ensures c.cut-5.ensures c.cut-6.ensures c.cut-7.ensures c.cut-8.ensures
