@@ -7,7 +7,7 @@ use Rattle.bits.specs.Took.{Took}
 use Rattle.rules.specs.declared.PointHead.{PointHead}
 use Rattle.rules.specs.File.{records, after, read_bits, read_at, meter_head_at, meter_at, point_at, condition_bits, condition_at, meters, conditions, transfers, transfers_from, reads_from, after_meter, after_meters, after_conditions, after_transfers, after_point}
 use Rattle.records.specs.declared.PointLists.{PointLists}
-use Rattle.records.specs.Lists.{ListsAt}
+use Rattle.records.specs.Lists.{ListsAt, after_lists}
 use Rattle.rules.proofs.Positions.{forward, meter_forward, records_wide}
 
 module _ (b : List ℕ) where
@@ -41,6 +41,13 @@ module _ (b : List ℕ) where
 
       pub meter_past : MetersLeft fewer (next + count * read_bits) end
       meter_past = record { rest = ap (λ p. after_meters p (meters b fewer p)) past ∙ (meters_one fewer at h ∙ m.rest); small = m.small }
+
+  -- past a point's conditions
+  pub lists_from : (at : ℕ) (head : PointHead) → let from = at + head.conditions * condition_bits in after_meters from (meters b head.meters from) ≡ after_lists b at head
+  lists_from at head = ap (λ from. after_meters from (meters b head.meters from)) (sym (records_wide condition_bits (condition_at b) head.conditions at))
+
+  pub lists_small : (at : ℕ) (head : PointHead) → after_lists b at head < 2 ^ 32 → at + head.conditions * condition_bits < 2 ^ 32
+  lists_small at head small = omega (arith, lists_from at head, meters_ahead head.meters (at + head.conditions * condition_bits))
 
 -- A POINT'S LISTS, by where they stand
 module _ {b : List ℕ} {at : ℕ} {r : PointLists} (l : ListsAt b at r) where

@@ -7,7 +7,7 @@ ghost use Rattle.rules.specs.File.{bands_from, bands, after_band, after_bands, t
 ghost use Rattle.rules.specs.File.{meters, after_meters, point_at, after_point};
 ghost use Rattle.rules.specs.Good.{Good};
 ghost use Rattle.rules.specs.Once.{good_once};
-ghost use Rattle.records.specs.Lists.{ListsAt};
+ghost use Rattle.records.specs.Lists.{ListsAt, after_lists};
 ghost use Rattle.records.specs.Conditions.{condition_of};
 
 use bits::{Cursor, Taken, cut};
@@ -271,6 +271,20 @@ fn after_meters(file: &[u8], list: Records) -> Cursor
         next = reads.next.past(reads.value, READ_BITS);
     }
     next
+}
+
+// The cursor after the conditions and the meters of a point, of where the conditions begin.
+pub fn after_lists(file: &[u8], c: Cursor, head: PointHead) -> Cursor
+    requires { after_lists file.now c.at head < 2 ^ 32 }
+    ensures { result.at ≡ after_lists file.now c.at head }
+{
+    let conditions = Records {
+        first: c,
+        count: head.conditions,
+    };
+    let first = conditions.end(CONDITION_BITS);
+    let count = head.meters;
+    after_meters(file, Records { first, count })
 }
 
 // A point before its lists, and where each of them stands.
