@@ -12,7 +12,7 @@ ghost use Rattle.meters.specs.Meters.{spread_of, meter_of, AdvanceOf, Weights, m
 
 mod advance;
 
-use advance::Advance;
+pub use advance::Advance;
 use bands::Bands;
 use bits::{Cursor, Taken};
 use charged::Charged;
