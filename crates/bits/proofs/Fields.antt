@@ -33,7 +33,7 @@ module _ (b : List ℕ) (bytes : (i : ℕ) → Fits w8 (get_or b i 0)) (k : ℕ)
 
 module _ (b : List ℕ) (bytes : (i : ℕ) → Fits w8 (get_or b i 0)) (k : ℕ) where
   -- n bytes and one more
-  field_more : (n : ℕ) {x : ℕ} → x ≡ field b (k * 8) (n * 8) → x * 256 + get_or b (k + n) 0 ≡ field b (k * 8) (n * 8 + 8)
+  pub field_more : (n : ℕ) {x : ℕ} → x ≡ field b (k * 8) (n * 8) → x * 256 + get_or b (k + n) 0 ≡ field b (k * 8) (n * 8 + 8)
   field_more n e =
       ap₂ (λ (u v : ℕ). u * 256 + v) e (field_byte b bytes (k + n) ∙ ap (λ (a : ℕ). field b a 8) (omega arith)) ∙ sym (field_split b (k * 8) (n * 8) 8)
 

@@ -1,14 +1,18 @@
 -- Quotients, remainders and bits. Assumes nothing.
-use Prim.Native.Nat.{ℕ, suc, ◌+◌, ◌*◌, ◌/◌, ◌%◌, ◌^◌, ◌-◌, ◌≤◌, ◌<◌}
-use mathlib.Core.Path.{◌≡◌, ap, sym, ◌∙◌}
+use Prim.Native.Nat.{ℕ, zero, suc, ◌+◌, ◌*◌, ◌/◌, ◌%◌, ◌^◌, ◌-◌, ◌≤◌, ◌<◌}
+use mathlib.Core.Logic.{◌⊎◌, inl, inr, ⊎_elim}
+use mathlib.Core.Path.{◌≡◌, refl, ap, sym, ◌∙◌}
 use native.Mathlib.Omega.{arith}
-use native.Mathlib.Nat.{pow-suc, div-div-eq-div-mul, div-eq_of_lt, div-le_self, le_of_lt, mul-le-mul_left, mul-le-mul_right, mul-lt-mul_of_pos_right, pow-le-pow_right, le-div_iff_mul-le}
+use native.Mathlib.Nat.{pow-suc, div-div-eq-div-mul, div-eq_of_lt, div-le_self, div-one, le_of_lt, mul-le-mul_left, mul-le-mul_right, mul-lt-mul_of_pos_right, pow-le-pow_right, le-div_iff_mul-le}
 use native.Mathlib.Decide.{dec_lt}
+use lib.Arith.{digits_div}
 use lib.Dec.{eqb}
 use lib.Count.{count_leading_zeros, leading_length}
 use lib.Pow.{pow_pos, pow-add}
 use Rattle.rules.specs.Sums.{only}
 use Rattle.rules.proofs.Shares.{div_mono}
+use Rattle.exact.specs.declared.Parts.{Parts}
+use Rattle.exact.specs.Parts.{value, Of}
 
 -- a number by which the divisor is no more than n is no more than n's quotient
 pub quotient_fits : {n d m : ℕ} (q : ℕ) → n / d < m → 0 < d → q * d ≤ n → q < m
@@ -39,6 +43,13 @@ module _ (a b k : ℕ) where
   pub front_le : a / 2 ^ k * b ≤ a * b
   front_le = mul-le-mul_right b (div-le_self a (2 ^ k))
 
+  pub front_all : k ≡ 0 → a / 2 ^ k * b ≡ a * b
+  front_all e = ap (λ z. z * b) (ap (λ j. a / 2 ^ j) e ∙ div-one a)
+
+-- the quotient alone
+pub quotient : (d x w r : ℕ) → r < d → w * d + r ≡ x → w ≡ x / d
+quotient d x w r h e = sym (ap (λ z. z / d) (sym e) ∙ digits_div w h)
+
 -- above its binary digits a number has none
 pub front_none : (a : ℕ) → a < 2 ^ 64 → a / 2 ^ (64 - count_leading_zeros 64 a) ≡ 0
 front_none a h =
@@ -53,6 +64,34 @@ product_fits a b ha hb h =
     let few : p.0 + q.0 ≤ 64 = omega (arith, p.1, q.1) in
     let all : 2 ^ (p.0 + q.0) ≤ 2 ^ 64 = pow-le-pow_right {n = 2} (omega arith) few in
     omega (arith, all, pow-add 2 p.0 q.0, mul-le-mul_left a (le_of_lt q.2), mul-lt-mul_of_pos_right p.2 (pow_pos q.0))
+
+-- a sum whose remainders pass the divisor
+pub carried : (p q : Parts) (d : ℕ) → p.rest < d → q.rest < d → d ≤ p.rest + q.rest →
+    Of d (value p d + value q d) (record { whole = p.whole + q.whole + 1; rest = p.rest - (d - q.rest) })
+carried p q d h k g = record { small = omega arith; is = omega arith }
+
+zero_or_one : (n : ℕ) → n < 2 → (n ≡ 1) ⊎ (n ≡ 0)
+zero_or_one zero h = inr refl
+zero_or_one (suc n) h = inl (omega arith)
+
+-- twice a number x, and y more where the bit is set: what each of the two sums asks, and what they come to
+module _ (x y bit d m : ℕ) (fits : (2 * x + bit * y) / d < m) where
+  pub twice_fits : (x + x) / d < m
+  twice_fits = omega (arith, div_mono {m = x + x} {n = 2 * x + bit * y} d (omega arith))
+
+  set : (z : ℕ) → bit < 2 → (bit ≡ 0 → ⊥) → z ≡ x + x → z + y ≡ 2 * x + bit * y
+  set z small on e =
+      let one : bit ≡ 1 = ⊎_elim (λ h. h) (λ h. absurd (on h)) (zero_or_one bit small) in
+      omega (arith, ap (λ b. b * y) one)
+
+  pub more_fits : (z : ℕ) → bit < 2 → (bit ≡ 0 → ⊥) → z ≡ x + x → (z + y) / d < m
+  more_fits z small on e = omega (arith, ap (λ n. n / d) (set z small on e))
+
+  pub set_is : {p : Parts} (z : ℕ) → bit < 2 → (bit ≡ 0 → ⊥) → z ≡ x + x → Of d (z + y) p → Of d (2 * x + bit * y) p
+  set_is z small on e of = record { small = of.small; is = of.is ∙ set z small on e }
+
+  pub unset_is : {p : Parts} → bit ≡ 0 → Of d (x + x) p → Of d (2 * x + bit * y) p
+  unset_is off of = record { small = of.small; is = omega (arith, of.is, ap (λ b. b * y) off) }
 
 -- a front of a, times b, has no greater quotient than the whole
 pub front_fits : (a b k d m x y : ℕ) → a * b / d < m → 0 < k → x ≡ a / 2 ^ k * b → y ≡ b → (2 * x + only (eqb (a / 2 ^ (k - 1) % 2) 1) y) / d < m

@@ -53,7 +53,7 @@ module _ (a : Advance) where
   pub carried_later : {x y up below : ℕ} → below ≡ carried_to x → up ≡ carried_to y → x ≤ y → below ≤ up
   carried_later {x} {y} b u h = omega (arith, carried_grows a.litres a.parts (a.last - a.first) (x - a.first) (y - a.first) (omega arith))
 
-  days_carry : (d k : ℕ) → a.first ≤ d → carried_to (d + k) ≡ carried_to d + over_days d k carried_on
+  pub days_carry : (d k : ℕ) → a.first ≤ d → carried_to (d + k) ≡ carried_to d + over_days d k carried_on
   unfolding over_days carried
   days_carry d zero h = grind arith
   days_carry d (suc k) h = grind (arith, days_carry d k h, carried_grows a.litres a.parts (a.last - a.first) (d + k - a.first) (d + k - a.first + 1) (omega arith))
@@ -68,7 +68,7 @@ module _ (a : Advance) where
 
 -- AN ADVANCE BY THE ENTRIES of its days, of n from `start` on
 module _ (start : ℕ) (a : Advance) {n from to : ℕ} (low : from ≡ min (a.first - start) n) (top : to ≡ min (a.last - start) n) where
-  spread_entry : (q : Sum) (i : ℕ) → i < n → during from to (litres_at start (carried_on a) q) i ≡ litres_at start (spread_of a) q i
+  pub spread_entry : (q : Sum) (i : ℕ) → i < n → during from to (litres_at start (carried_on a) q) i ≡ litres_at start (spread_of a) q i
   unfolding spread
   spread_entry litres_sum i h = rw (low, top) (during_entry n start a.first a.last (carried_on a) i h)
   spread_entry annual_sum i h = during_zero _ _ i
