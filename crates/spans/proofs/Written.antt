@@ -1,6 +1,6 @@
 -- What is written to one span. Assumes nothing.
 use Prim.Native.Nat.{ℕ, ◌+◌, ◌*◌, ◌<◌}
-use mathlib.Core.Path.{◌≡◌, refl, ◌∙◌}
+use mathlib.Core.Path.{◌≡◌, refl, ap, ◌∙◌}
 use mathlib.Core.List.{List, [], ◌∷◌, ◌++◌}
 use native.Mathlib.Omega.{arith}
 use Rattle.std.proofs.lemmas.Bool.Decides.{nat_tests}
@@ -11,7 +11,7 @@ use Rattle.rules.specs.Sums.{only}
 use Rattle.records.specs.declared.Groups.{Groups}
 use Rattle.spans.specs.declared.Figures.{Figures}
 use Rattle.spans.specs.declared.Span.{Span}
-use Rattle.spans.specs.Spans.{Sums, Times, span_in, Sum, litres_sum, annual_sum, allowance_sum, threshold_sum, sum_of, sum_in, SpanAdded, SumsAdded, litres_of, figure_of}
+use Rattle.spans.specs.Spans.{Sums, Times, clear_span, span_in, Sum, litres_sum, annual_sum, allowance_sum, threshold_sum, sum_of, sum_in, SpanAdded, SumsAdded, litres_of, figure_of}
 
 module _ (spans : List Span) (s : ℕ) (span : Span) where
   written_here : s < length spans → span_in (set spans s span) s ≡ span
@@ -22,10 +22,13 @@ module _ (spans : List Span) (s : ℕ) (span : Span) where
   unfolding span_in
   written_else t e = get_or-set_other spans s t span _ (λ q. e (omega arith))
 
-pub span_added : (spans : List Span) {next : List Span} {end provider : ℕ} {groups : Groups} {litres : ℕ} {figures : Figures} →
-    next ≡ spans ++ (record { end = end; provider = provider; groups = groups; litres = litres; figures = figures }) ∷ [] → litres ≡ 0 → (figures.annual ≡ 0) × ((figures.allowance ≡ 0) × (figures.threshold ≡ 0)) →
-    SpanAdded spans next end provider groups
-span_added spans pushed l f = record { is = pushed ∙ rw (l, f.0, f.1.0, f.1.1) refl }
+-- A SPAN WITHOUT SUMS, and one more such span
+pub clear_is : {end provider : ℕ} {groups : Groups} {litres : ℕ} {figures : Figures} → litres ≡ 0 → (figures.annual ≡ 0) × ((figures.allowance ≡ 0) × (figures.threshold ≡ 0)) →
+    record { end = end; provider = provider; groups = groups; litres = litres; figures = figures } ≡ clear_span end provider groups
+clear_is l f = rw (l, f.0, f.1.0, f.1.1) refl
+
+pub span_added : (spans : List Span) {next : List Span} {end provider : ℕ} {groups : Groups} {span : Span} → next ≡ spans ++ span ∷ [] → span ≡ clear_span end provider groups → SpanAdded spans next end provider groups
+span_added spans pushed e = record { is = pushed ∙ ap (λ v. spans ++ v ∷ []) e }
 
 -- A SPAN WHOSE SUMS BECOME MORE, and of which all else stays
 module _ (spans : List Span) (s : ℕ) (span : Span) (x : Sum → ℕ) (within : s < length spans) (ends : span.end ≡ (span_in spans s).end)

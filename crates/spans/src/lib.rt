@@ -2,8 +2,8 @@
 // The charged days of a supply point by spans: days that stand side by side and have one provider and one condition. A point's spans stand in a lent
 // vector, each with the entry before which it ends, its provider, its condition by groups, and four sums over its days. What some days have is added
 // to the spans that they meet, so that nothing is kept or done for each day.
-ghost use Rattle.std.specs.Prelude.{◌≡◌, ℕ, ◌+◌, ◌*◌, ◌<◌, ◌≤◌, ◌^◌, length};
-ghost use Rattle.spans.specs.Spans.{Sums, Times, begin_in, Cut, Reached, Holds, SpanAdded, SumsAdded, figure_of, litres_of, RoomAt, during, Grown, Room};
+ghost use Rattle.std.specs.Prelude.{◌≡◌, ℕ, ◌+◌, ◌*◌, ◌<◌, ◌≤◌, ◌^◌, length, set};
+ghost use Rattle.spans.specs.Spans.{Sums, Times, clear_span, begin_in, Cut, Reached, Holds, SpanAdded, SumsAdded, figure_of, litres_of, RoomAt, during, Grown, Room};
 
 use arrayvec::ArrayVec;
 use records::Groups;
@@ -64,17 +64,32 @@ pub struct Span {
     pub figures: Figures,
 }
 
-// One more span, which ends before an entry, and has a provider and a condition; its sums are 0.
-pub fn add_span(spans: &mut ArrayVec<Span, MOST_SPANS>, end: usize, provider: u64, groups: Groups)
-    requires { length spans.old.items < 72 }
-    ensures { SpanAdded spans.old.items spans.new.items end provider groups }
+// A span that ends before an entry, and has a provider and a condition; its sums are 0.
+fn clear_span(end: usize, provider: u64, groups: Groups) -> Span
+    ensures { result ≡ clear_span end provider groups }
 {
-    spans.push(Span {
+    Span {
         end,
         provider,
         groups,
         ..Span::default()
-    });
+    }
+}
+
+// The span at a place becomes such a one.
+pub fn set_span(spans: &mut [Span], s: usize, end: usize, provider: u64, groups: Groups)
+    requires { s < length spans.old }
+    ensures { spans.new ≡ set spans.old s (clear_span end provider groups) }
+{
+    spans[s] = clear_span(end, provider, groups);
+}
+
+// One more such span.
+pub fn add_span(spans: &mut ArrayVec<Span, MOST_SPANS>, end: usize, provider: u64, groups: Groups)
+    requires { length spans.old.items < 72 }
+    ensures { SpanAdded spans.old.items spans.new.items end provider groups }
+{
+    spans.push(clear_span(end, provider, groups));
 }
 
 // The span that holds the day of an entry, from one on that does not begin after it.

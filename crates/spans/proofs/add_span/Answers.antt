@@ -3,4 +3,4 @@ use Rattle.spans.proofs.Written.{span_added}
 use Rattle.spans.proofs.add_span.Goals as goal
 
 pub returns : goal.returns
-returns c = span_added _ c.push.ensures.items c.default.ensures.1.1.1.0 c.default.ensures.1.1.1.1
+returns c = span_added _ c.push.ensures.items c.clear_span.ensures
