@@ -10,10 +10,10 @@ pub record SizesOf (file : List ℕ) (count at : ℕ) (sizes : List ℕ) : Type 
   pub each : (k : ℕ) → k < count → get_or sizes k 0 ≡ (band_at file (at + k * band_bits)).size
 
 -- there are so many bands, and these are their sizes
-pub record BandsOf (file : List ℕ) (count : ℕ) (bands : Bands) : Type 0 where
+pub record BandsOf {N : ℕ} (file : List ℕ) (count : ℕ) (bands : Bands N) : Type 0 where
   pub many : length bands.sizes.items ≡ count
   pub sizes : SizesOf file count bands.first.at bands.sizes.items
 
 -- the bands of a file that they are, so many from a position on
-abbrev pub bands_in : List ℕ → Bands → List Band
+abbrev pub bands_in : {N : ℕ} → List ℕ → Bands N → List Band
 bands_in file b = bands file (length b.sizes.items) b.first.at

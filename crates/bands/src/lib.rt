@@ -17,20 +17,20 @@ fn no_band() -> Band
     Band::default()
 }
 
-// The bands of a tariff, of which it has at most 24: where the first one stands in the file, and their sizes. Every meter of the file looks its band
+// The bands of a tariff, of which it has at most N: where the first one stands in the file, and their sizes. Every meter of the file looks its band
 // up in the sizes, so that they are read from the file once, and not again for each meter.
 #[derive(Drop)]
-pub struct Bands {
+pub struct Bands<const N: usize> {
     pub first: Cursor,
-    pub sizes: ArrayVec<u64, 24>,
+    pub sizes: ArrayVec<u64, N>,
 }
 
-impl Bands {
+impl<const N: usize> Bands<N> {
     ghost use Rattle.bands.specs.Bands.{SizesOf, BandsOf, bands_in};
 
     // The bands that stand in a file.
-    pub fn read(file: &[u8], list: Records) -> Bands
-        requires { (list.count ≤ 24) × (after_bands list.first.at (bands_from file.now list.count list.first.at) < 2 ^ 32) }
+    pub fn read(file: &[u8], list: Records) -> Bands<N>
+        requires { (list.count ≤ N) × (after_bands list.first.at (bands_from file.now list.count list.first.at) < 2 ^ 32) }
         ensures { BandsOf file.now list.count result × (result.first ≡ list.first) }
     {
         let first = list.first;

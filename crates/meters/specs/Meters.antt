@@ -95,7 +95,7 @@ pub record GoodMeters (file : List ℕ) (n at : ℕ) : Type 0 where
   pub ends : after_meters at (meters file n at) < 2 ^ 32
 
 -- and of the tariff's bands
-pub record GoodBands (file : List ℕ) (bands : Bands) : Type 0 where
+pub record GoodBands {N : ℕ} (file : List ℕ) (bands : Bands N) : Type 0 where
   pub some : 1 ≤ length bands.sizes.items
   pub priced : All GoodBand (bands_in file bands)
   pub rising : Ascending 0 (map (λ b. b.size) (bands_in file bands))

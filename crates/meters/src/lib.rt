@@ -182,10 +182,10 @@ fn add_during(
 }
 
 // A meter: its litres, and its band's figures × its share on its meter days. Return to sewer enters the litres alone.
-fn add_meter<'a>(
+fn add_meter<'a, const N: usize>(
     file: &'a [u8],
     c: Cursor,
-    bands: &'a Bands,
+    bands: &'a Bands<N>,
     spans: &mut [Span],
     days: Charged,
     every: Figures,
@@ -207,10 +207,10 @@ fn add_meter<'a>(
 }
 
 // What the days of each span have of the meters, where the sums were 0. What the meters that are there on all days have together is handed back, and is not added to the spans.
-pub fn add_meters<'a>(
+pub fn add_meters<'a, const N: usize>(
     file: &'a [u8],
     list: Records,
-    bands: &'a Bands,
+    bands: &'a Bands<N>,
     spans: &mut [Span],
     days: Charged,
 ) -> Taken<Figures>

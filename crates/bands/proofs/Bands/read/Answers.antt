@@ -4,7 +4,7 @@ use Rattle.bands.proofs.Serving.{band_within}
 use Rattle.bands.proofs.Bands.read.Goals as goal
 
 pub past-band-requires : goal.past-band-requires
-past-band-requires c = omega (arith, band_within _ _ c.requires.1 c.loop-k-test.true)
+past-band-requires g c = omega (arith, band_within _ _ c.requires.1 c.loop-k-test.true)
 
 pub band_size-requires : goal.band_size-requires
-band_size-requires c = omega (arith, band_within _ _ c.requires.1 c.loop-k-test.true)
+band_size-requires g c = omega (arith, band_within _ _ c.requires.1 c.loop-k-test.true)
