@@ -72,7 +72,7 @@ pub owner_is : (file : List ℕ) (count at start i : ℕ) → (transfer_in file 
 owner_is file count at start i = sym (latest_provider (record { day = 0; provider = 0 }) (transfers file count at) (start + i))
 
 -- BEFORE THE FIRST condition all fields are 0
-no_groups : (g : Groups) → (g.state ≡ 0) × (g.rateable ≡ 0) → condition_of g ≡ no_condition
+pub no_groups : (g : Groups) → (g.state ≡ 0) × (g.rateable ≡ 0) → condition_of g ≡ no_condition
 unfolding condition_of no_condition
 no_groups g e = rw (e.0, e.1) refl
 
