@@ -35,7 +35,7 @@ connected_first tariff supply = omega arith
 -- A POINT of an accepted file, by where its lists stand
 module _ {b : List ℕ} {at : ℕ} {r : PointLists} (l : ListsAt b at r) where
   -- its transfers give the provider of each day from a day on that is not before its connection
-  transfers_sound : {service : Service} {day : ℕ} → GoodPoint service (point_at b at) → after_point at (point_at b at) < 2 ^ 32 → (point_at b at).supply.connected ≤ day →
+  pub transfers_sound : {service : Service} {day : ℕ} → GoodPoint service (point_at b at) → after_point at (point_at b at) < 2 ^ 32 → (point_at b at).supply.connected ≤ day →
       SoundTransfers b r.transfers.count r.transfers.first.at day
   transfers_sound g small h =
       let same = sym (transfers_are l) in

@@ -21,7 +21,7 @@ use Rattle.charged.specs.Charged.{first_entry}
 use Rattle.providers.specs.Runs.{SoundTransfers, Walk, Reading}
 
 -- the entry of the first of some dated records is one of n days, or n
-first_within : {A : Type 0} (day : A → ℕ) (n start : ℕ) (xs : List A) → first_entry day n start xs ≤ n
+pub first_within : {A : Type 0} (day : A → ℕ) (n start : ℕ) (xs : List A) → first_entry day n start xs ≤ n
 unfolding first_entry
 first_within day n start [] = omega arith
 first_within day n start (x ∷ xs) = omega arith
@@ -137,7 +137,7 @@ unfolding records
 some_first file zero at day f = absurd f
 some_first file (suc count) at day f = omega arith
 
-first_zero : (n start : ℕ) (ts : List Transfer) → FirstBy start ts → first_entry (λ t. t.day) n start ts ≡ 0
+pub first_zero : (n start : ℕ) (ts : List Transfer) → FirstBy start ts → first_entry (λ t. t.day) n start ts ≡ 0
 unfolding first_entry
 first_zero n start [] h = absurd h
 first_zero n start (t ∷ ts) h = omega arith
