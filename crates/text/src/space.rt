@@ -31,6 +31,7 @@ impl<'a> Sink for Space<'a> {
 
     ghost takes = { λ a t b. Put a.bytes.now a.at t b.bytes.now b.at × (b.bytes.ghost_name ≡ a.bytes.ghost_name) };
 
+    #[inline(always)]
     fn text(&mut self, text: &[u8]) {
         let after = self.at + text.len();
         let space = &mut *self.bytes;
@@ -38,6 +39,8 @@ impl<'a> Sink for Space<'a> {
         self.at = after;
     }
 
+    // Not part of its callers, which are many.
+    #[inline(never)]
     #[tactic(auto, using(crate::proofs::Decimal::standard, crate::specs::Puts::put_parts))]
     fn number(&mut self, n: u64) {
         let end = self.at + digits(n);
@@ -50,6 +53,7 @@ impl<'a> Sink for Space<'a> {
 }
 
 // A text is copied into a space of its length, byte by byte: the library's `copy_from_slice` calls a `memmove` that the unit has not got.
+#[inline(always)]
 fn copy(space: &mut [u8], text: &[u8])
     requires { length space.old ≡ length text.now }
     ensures { space.new ≡ text.now }
