@@ -1,5 +1,6 @@
 // A lent space that texts are written into, from its front on.
-ghost use Rattle.std.specs.Prelude.{◌≡◌, length};
+ghost use Rattle.std.specs.Prelude.{◌≡◌, ◌+◌, ◌≤◌, length};
+ghost use Rattle.rules.specs.Text.{decimal};
 ghost use Rattle.std.proofs.Common.{◌∙◌};
 ghost use Rattle.text.specs.Written.{Put};
 ghost use Rattle.text.specs.Puts.{put_then};
@@ -39,14 +40,10 @@ impl<'a> Sink for Space<'a> {
         self.at = after;
     }
 
-    // Not part of its callers, which are many.
-    #[inline(never)]
-    #[tactic(auto, using(crate::proofs::Decimal::standard, crate::specs::Puts::put_parts))]
+    #[inline(always)]
     fn number(&mut self, n: u64) {
-        let end = self.at + digits(n);
         let space = &mut *self.bytes;
-        write_digits(n, space, end);
-        self.at = end;
+        self.at = put_number(space, self.at, n);
     }
 
     ghost goes_on = { λ a b c s t p q. (put_then p.0 q.0, q.1 ∙ p.1) };
@@ -61,4 +58,16 @@ fn copy(space: &mut [u8], text: &[u8])
     for (place, byte) in text.iter().enumerate() {
         space[place] = *byte;
     }
+}
+
+// A number is put by a call, since there are many. It takes the bytes and the place, and not the whole `Space`, which so stays in registers.
+#[inline(never)]
+#[tactic(auto, using(crate::proofs::Decimal::standard, crate::specs::Puts::put_parts))]
+fn put_number(space: &mut [u8], at: usize, n: u64) -> usize
+    requires { at + length (decimal n) ≤ length space.old }
+    ensures { Put space.old at (decimal n) space.new result }
+{
+    let end = at + digits(n);
+    write_digits(n, space, end);
+    end
 }
