@@ -8,7 +8,7 @@ ghost use Rattle.text.specs.Written.{Taken, single};
 mod count;
 mod space;
 
-pub use count::Count;
+pub use count::{Count, number_length};
 pub use space::Space;
 
 // What takes texts. It asks that it has room for them.

@@ -6,7 +6,7 @@ ghost use Rattle.text.specs.Written.{Put};
 ghost use Rattle.text.specs.Puts.{put_then};
 
 use crate::Sink;
-use crate::count::digits;
+use crate::count::number_length;
 use itoa::write_digits;
 
 #[derive(Drop)]
@@ -67,7 +67,7 @@ fn put_number(space: &mut [u8], at: usize, n: u64) -> usize
     requires { at + length (decimal n) ≤ length space.old }
     ensures { Put space.old at (decimal n) space.new result }
 {
-    let end = at + digits(n);
+    let end = at + number_length(n);
     write_digits(n, space, end);
     end
 }
