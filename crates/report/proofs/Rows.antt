@@ -1,12 +1,14 @@
 -- The blocks of the first rows, one row more at a time. Assumes nothing.
 use mathlib.Core.Path.{◌≡◌, refl, sym, ap, ◌∙◌}
 use mathlib.Core.List.{List, [], ◌∷◌, ◌++◌, append_assoc, append-nil}
-use Prim.Native.Nat.{ℕ, ◌+◌, ◌≤◌, ◌<◌}
+use Prim.{tt}
+use Prim.Native.Nat.{ℕ, suc, ◌+◌, ◌≤◌, ◌<◌}
 use native.Mathlib.Numerals.{add-one}
 use native.Mathlib.Omega.{arith}
 use lib.ListN.{length, take, drop, get_or, length-append, take-append-drop}
 use lib.Seq.{take-suc}
 use Rattle.rules.specs.declared.Row.{Row}
+use Rattle.rules.specs.Lists.{All}
 use Rattle.rules.specs.Settlement.{days, litres}
 use Rattle.rules.specs.Report.{block, blocks}
 
@@ -43,3 +45,8 @@ module _ (rows : List Row) (k : ℕ) (h : k < length rows) where
         ap length (blocks_append front back) ∙ length-append (blocks front) (blocks back),
         ap length blocks_more ∙ length-append (blocks (take k rows)) (block (row_at rows k)),
       )
+
+-- what holds of the row at each index holds of all rows
+pub all_by_place : (P : Row → Type 0) (rows : List Row) → ((k : ℕ) → k < length rows → P (row_at rows k)) → All P rows
+all_by_place P [] each = tt
+all_by_place P (r ∷ rs) each = (each 0 (omega arith), all_by_place P rs (λ k h. each (suc k) (omega arith)))

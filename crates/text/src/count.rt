@@ -1,6 +1,7 @@
 // A count of the bytes of texts.
 ghost use Rattle.std.specs.Prelude.{◌≡◌, ◌+◌, ◌-◌, ◌^◌, length};
 ghost use Rattle.rules.specs.Text.{decimal};
+ghost use Rattle.text.specs.Written.{Long};
 ghost use Rattle.text.specs.Puts.{counts_on};
 
 use crate::Sink;
@@ -22,16 +23,16 @@ impl Sink for Count {
     }
 
     fn number(&mut self, n: u64) {
-        self.bytes += digits(n);
+        self.bytes += number_length(n);
     }
 
     ghost goes_on = { λ a b c s t p q. counts_on a.bytes b.bytes c.bytes s t p q };
 }
 
 // How many digits a number has: one more than the power of ten that it reaches. 0 has one too.
-#[tactic(auto, using(crate::proofs::Decimal::length_one, crate::proofs::Decimal::length_power))]
-pub(crate) fn digits(n: u64) -> usize
-    ensures { result ≡ length (decimal n) }
+#[tactic(auto, using(crate::proofs::Decimal::length_one, crate::proofs::Decimal::length_power, crate::proofs::Decimal::length_most))]
+pub fn number_length(n: u64) -> usize
+    ensures { Long (decimal n) 20 result }
 {
     match n.checked_ilog10() {
         Some(power) => power as usize + 1,

@@ -8,7 +8,7 @@ ghost use Rattle.text.specs.Written.{Taken, single};
 mod count;
 mod space;
 
-pub use count::Count;
+pub use count::{Count, number_length};
 pub use space::Space;
 
 // What takes texts. It asks that it has room for them.
@@ -32,7 +32,8 @@ pub trait Sink {
     // Two texts one after another are one text.
     ghost goes_on: { (a b c : Self) (s t : List ℕ) → takes a s b → takes b t c → takes a (s ++ t) c };
 
-    // A label and a number.
+    // A label and a number. Part of its caller, so that the length of a label is known where it is copied: then a few stores do.
+    #[inline(always)]
     final fn field(&mut self, label: &[u8], n: u64)
         requires { at self.old + length label.now + length (decimal n) ≤ end self.old }
         ensures { Taken at end takes self.old (label.now ++ decimal n) self.new }
@@ -42,6 +43,7 @@ pub trait Sink {
     }
 
     // A line that has a label, a number and no more.
+    #[inline(always)]
     #[tactic(auto, using(crate::specs::Puts::sizes), unfolding(crate::specs::Written::single, rules::specs::Text::text))]
     final fn single(&mut self, label: &[u8], n: u64)
         requires { at self.old + length (single label.now n) ≤ end self.old }
