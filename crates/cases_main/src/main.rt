@@ -124,8 +124,11 @@ fn print_case<W: Write>(
 fn main(rt: HostRuntime) -> io::Result<()> {
     let mut input = rt.stdin();
     let mut out = rt.stdout();
-    let found: [u8; BYTES] = array::from_fn(byte_found);
-    let mut space = found;
+    let mut found = [0u8; BYTES];
+    for place in 0..BYTES {
+        found[place] = byte_found(place);
+    }
+    let mut space = [0u8; BYTES];
     batch::for_each_case(&mut input, |number, case| {
         print_case(&mut out, &found, &mut space, number, case)
     })
