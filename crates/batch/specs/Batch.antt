@@ -1,9 +1,10 @@
 -- A batch's bytes: cases one after the other, each of three numbers and a file.
-use Rattle.std.specs.Prelude.{ℕ, zero, suc, Ok, ◌⊎◌, ◌+◌, ◌*◌, ◌^◌, ◌≤◌, ◌<◌, ◌≡◌, List, ◌++◌, length, take, slice_index, ⊤, None, Some}
+use Rattle.std.specs.Prelude.{ℕ, zero, suc, Ok, ◌⊎◌, ◌+◌, ◌*◌, ◌^◌, ◌≤◌, ◌<◌, ◌≡◌, List, ◌++◌, length, take, min, slice_index, ⊤, None, Some}
 use Rattle.std.specs.Io.KnownBytes.{Consumes}
 use Rattle.std.specs.declared.option.Option.{Option}
 use Rattle.std.specs.declared.result.Result.{Result}
 use Rattle.batch.specs.declared.Case.{Case}
+use Rattle.batch.specs.declared.Found.{Found}
 use Rattle.batch.specs.declared.TheConstants.{CASES}
 
 -- the number of the four bytes from a place on, most significant first
@@ -19,6 +20,19 @@ Loses old new count = (bytes : List ℕ) × Consumes old new bytes × (length by
 abbrev pub EndsBefore : Option (List ℕ) → ℕ → Type 0
 EndsBefore None count = ⊤
 EndsBefore (Some bytes) count = length bytes < count
+
+-- A case was read into a space: its head and its file are what the input has lost, the space begins with the file, or with as much as it holds,
+-- and the numbers are those of the head.
+pub record ReadsInto (old new : Option (List ℕ)) (space : List ℕ) (case : Found) : Type 0 where
+  pub head : List ℕ
+  pub file : List ℕ
+  pub lost : Consumes old new (head ++ file)
+  pub head_long : length head ≡ 12
+  pub file_long : length file ≡ number head 0
+  pub kept : case.kept ≡ min (length file) (length space)
+  pub begins : take case.kept space ≡ take case.kept file
+  pub entries : case.entries ≡ number head 4
+  pub bytes : case.bytes ≡ number head 8
 
 -- A case was read: its head and its file are what the input has lost, its numbers are those of the head, and of its file it has as much as there
 -- was room for.

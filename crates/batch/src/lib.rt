@@ -3,7 +3,7 @@
 // entries of the table lent, the bytes of report space lent), and then the file's bytes.
 ghost use Rattle.std.specs.Prelude.{◌≡◌, ◌≤◌, ◌<◌, length, take, true, false, ◌+◌, IfOk, OnOk, IfSome, IsNone};
 ghost use Rattle.std.specs.Io.KnownBytes.{Consumes, IsAtEnd};
-ghost use Rattle.batch.specs.Batch.{number, Loses, EndsBefore, Reads, NoCase, Answered};
+ghost use Rattle.batch.specs.Batch.{number, Loses, EndsBefore, ReadsInto, Reads, NoCase, Answered};
 
 use std::io;
 use std::io::Read;
@@ -63,19 +63,20 @@ fn passed_over<R: Read>(input: &mut R, count: usize) -> io::Result<bool>
     Ok(true)
 }
 
-// A case that was read: its file, and what is to be lent, entries of a table and bytes of report space.
+// A case that was read into a space: how much of its file the space holds, and what is to be lent, entries of a table and bytes of report space.
 #[derive(Clone, Copy)]
-pub struct Case<'a> {
-    pub file: &'a [u8],
+pub struct Found {
+    pub kept: usize,
     pub entries: usize,
     pub bytes: usize,
 }
 
 // Reads the next case's file into the space; none where the batch ends. Of a longer file only what the space holds is kept. The clauses on bytes
 // hold of an input whose bytes are known.
-pub fn next_case<'a, R: Read>(input: &mut R, space: &'a mut [u8]) -> io::Result<Option<Case<'a>>>
-    ensures within { IfOk result (λ found. IfSome found (λ case. length case.file.now ≤ length space.old)) }
-    ensures read { IfOk result (λ found. IfSome found (λ case. Reads (R.remaining input.old) (R.remaining input.new) (length space.old) case)) }
+pub fn read_case<R: Read>(input: &mut R, space: &mut [u8]) -> io::Result<Option<Found>>
+    ensures within { IfOk result (λ found. IfSome found (λ case. case.kept ≤ length space.new)) }
+    ensures same_length { length space.new ≡ length space.old }
+    ensures read { IfOk result (λ found. IfSome found (λ case. ReadsInto (R.remaining input.old) (R.remaining input.new) space.new case)) }
     ensures none { IfOk result (λ found. IsNone found → NoCase (R.remaining input.old)) }
 {
     let mut head = [0u8; 12];
@@ -92,10 +93,34 @@ pub fn next_case<'a, R: Read>(input: &mut R, space: &'a mut [u8]) -> io::Result<
     if !passed_over(input, size - kept)? {
         return Ok(None);
     }
-    Ok(Some(Case {
-        file: &space[..kept],
+    Ok(Some(Found {
+        kept,
         entries: number_at(head, 4),
         bytes: number_at(head, 8),
+    }))
+}
+
+// A case that was read: its file, and what is to be lent, entries of a table and bytes of report space.
+#[derive(Clone, Copy)]
+pub struct Case<'a> {
+    pub file: &'a [u8],
+    pub entries: usize,
+    pub bytes: usize,
+}
+
+// The same, with the file as it stands in the space.
+pub fn next_case<'a, R: Read>(input: &mut R, space: &'a mut [u8]) -> io::Result<Option<Case<'a>>>
+    ensures within { IfOk result (λ found. IfSome found (λ case. length case.file.now ≤ length space.old)) }
+    ensures read { IfOk result (λ found. IfSome found (λ case. Reads (R.remaining input.old) (R.remaining input.new) (length space.old) case)) }
+    ensures none { IfOk result (λ found. IsNone found → NoCase (R.remaining input.old)) }
+{
+    let Some(found) = read_case(input, space)? else {
+        return Ok(None);
+    };
+    Ok(Some(Case {
+        file: &space[..found.kept],
+        entries: found.entries,
+        bytes: found.bytes,
     }))
 }
 

@@ -4,7 +4,7 @@
 // that is refused. A line `report` has the answer and how many of the bytes lent are past it and as they were found; then the report, where one
 // was written. At most 80 entries and 65,536 bytes are lent, whatever the batch asks.
 use batch::Case;
-use rules::{Centipence, Days, Litres, Row, Statement};
+use rules::{Centipence, Days, Litres, Row};
 use std::io::Write;
 use std::{array, fmt, io};
 
@@ -42,24 +42,20 @@ fn byte_found(place: usize) -> u8 {
 }
 
 // How many of those lent are as found, from a place on.
-fn kept_from<T: PartialEq + Drop, F: Fn(usize) -> T>(lent: &[T], from: usize, found: F) -> usize
-    requires { F.IsAlwaysCallable found }
-{
+fn kept_from<T: PartialEq>(lent: &[T], found: &[T], from: usize) -> usize {
     lent.iter()
-        .enumerate()
+        .zip(found)
         .skip(from)
-        .filter(|(place, one)| **one == found(*place))
+        .filter(|(one, other)| one == other)
         .count()
 }
 
 fn print_rows<W: Write>(out: &mut W, case: Case) -> io::Result<()> {
-    let mut table: [Row; ENTRIES] = array::from_fn(row_found);
+    let found: [Row; ENTRIES] = array::from_fn(row_found);
+    let mut table = found;
     let lent = &mut table[..case.entries.min(ENTRIES)];
-    let (number, count) = match unit::rows(case.file, lent) {
-        Ok(count) => (0, count),
-        Err(breach) => (breach.number(), 0),
-    };
-    let kept = kept_from(lent, count, row_found);
+    let (number, count) = unit::numbered_rows(unit::rows(case.file, lent));
+    let kept = kept_from(lent, &found, count);
     writeln!(out, "rows {number} {count} {kept}")?;
     for row in lent.iter().take(count) {
         writeln!(
@@ -74,55 +70,66 @@ fn print_rows<W: Write>(out: &mut W, case: Case) -> io::Result<()> {
     Ok(())
 }
 
-fn print_statement<W: Write>(out: &mut W, place: u64, number: u64, s: Statement) -> io::Result<()> {
-    writeln!(
-        out,
-        "statement {place} {number} {} {} {} {} {} {}",
-        s.days.0,
-        s.litres.0,
-        s.disconnected.0,
-        s.volume.0,
-        s.year_cost.0,
-        Charges(s.charges)
-    )
-}
-
 // No file has more than 256 points, so that the 257th place is refused.
 fn print_statements<W: Write>(out: &mut W, case: Case) -> io::Result<()> {
     for place in 0..257 {
-        match unit::statement(case.file, place) {
-            Ok(statement) => print_statement(out, place, 0, statement)?,
-            Err(breach) => {
-                return print_statement(out, place, breach.number(), Statement::default());
-            }
+        let (number, s) = unit::numbered_statement(unit::statement(case.file, place));
+        writeln!(
+            out,
+            "statement {place} {number} {} {} {} {} {} {}",
+            s.days.0,
+            s.litres.0,
+            s.disconnected.0,
+            s.volume.0,
+            s.year_cost.0,
+            Charges(s.charges)
+        )?;
+        if number != 0 {
+            break;
         }
     }
     Ok(())
 }
 
-fn print_report<W: Write>(out: &mut W, case: Case) -> io::Result<()> {
-    let mut space: [u8; BYTES] = array::from_fn(byte_found);
-    let lent = &mut space[..case.bytes.min(BYTES)];
-    let (answer, end) = match unit::settlement_report(case.file, lent) {
-        Ok(length) => (length as u64, length),
-        Err(breach) => (breach.number(), 0),
-    };
-    let kept = kept_from(lent, end, byte_found);
-    writeln!(out, "report {answer} {kept}")?;
+// Of the space only what is lent is made as found: a batch may have a great many cases that lend little.
+fn print_report<W: Write>(
+    out: &mut W,
+    found: &[u8; BYTES],
+    space: &mut [u8; BYTES],
+    case: Case,
+) -> io::Result<()> {
+    let bytes = case.bytes.min(BYTES);
+    let lent = &mut space[..bytes];
+    lent.copy_from_slice(&found[..bytes]);
+    let answer = unit::settlement_report(case.file, lent);
+    let end = answer.unwrap_or(0);
+    let kept = kept_from(lent, found, end);
+    writeln!(out, "report {} {kept}", unit::one_number(answer))?;
     out.write_all(&lent[..end])
 }
 
-fn print_case<W: Write>(out: &mut W, number: u64, case: Case) -> io::Result<()> {
+fn print_case<W: Write>(
+    out: &mut W,
+    found: &[u8; BYTES],
+    space: &mut [u8; BYTES],
+    number: u64,
+    case: Case,
+) -> io::Result<()> {
     writeln!(out, "case {number}")?;
     print_rows(out, case)?;
     print_statements(out, case)?;
-    print_report(out, case)
+    print_report(out, found, space, case)
 }
 
 fn main(rt: HostRuntime) -> io::Result<()> {
     let mut input = rt.stdin();
     let mut out = rt.stdout();
+    let mut found = [0u8; BYTES];
+    for place in 0..BYTES {
+        found[place] = byte_found(place);
+    }
+    let mut space = [0u8; BYTES];
     batch::for_each_case(&mut input, |number, case| {
-        print_case(&mut out, number, case)
+        print_case(&mut out, &found, &mut space, number, case)
     })
 }

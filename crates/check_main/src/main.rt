@@ -8,7 +8,7 @@ fn main(rt: HostRuntime) -> io::Result<()> {
     let mut input = rt.stdin();
     let mut out = rt.stdout();
     batch::for_each_case(&mut input, |_, case| {
-        let number = format::check(case.file).err().map_or(0, Breach::number);
+        let number = Breach::number_in(&format::check(case.file));
         writeln!(out, "{number}")
     })
 }
