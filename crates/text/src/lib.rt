@@ -32,7 +32,8 @@ pub trait Sink {
     // Two texts one after another are one text.
     ghost goes_on: { (a b c : Self) (s t : List ℕ) → takes a s b → takes b t c → takes a (s ++ t) c };
 
-    // A label and a number. Part of its caller, so that the length of a label is known where it is copied: then a few stores do.
+    // A label and a number. It is made part of its caller, as a `Space`'s `text` is, so that a label's length is known where it is copied: then a few
+    // stores do.
     #[inline(always)]
     final fn field(&mut self, label: &[u8], n: u64)
         requires { at self.old + length label.now + length (decimal n) ≤ end self.old }
