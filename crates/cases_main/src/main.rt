@@ -124,6 +124,7 @@ fn print_case<W: Write>(
 fn main(rt: HostRuntime) -> io::Result<()> {
     let mut input = rt.stdin();
     let mut out = rt.stdout();
+    // `array::from_fn` would take the stack of one more array.
     let mut found = [0u8; BYTES];
     for place in 0..BYTES {
         found[place] = byte_found(place);
