@@ -1,11 +1,12 @@
 -- What a batch's bytes lose and have left as a case is read. Assumes nothing.
-use Rattle.std.proofs.Common.{◌≡◌, ℕ, ◌+◌, ◌-◌, ◌≤◌, ◌<◌, List, ◌++◌, None, Some, arith, length, take, min, slice_index, subst, refl, sym, ap, ◌∙◌, length-append, take_all, length-take-le}
+use Rattle.std.proofs.Common.{◌≡◌, ℕ, ◌+◌, ◌-◌, ◌≤◌, ◌<◌, List, [], ◌∷◌, ◌++◌, None, Some, arith, length, take, min, slice_index, subst, refl, sym, ap, ◌∙◌, length-append, append-nil, take_all, length-take-le}
 use Rattle.std.proofs.Math.Seq.{take-append_seam}
 use Rattle.std.proofs.Math.ListN.{get_or-append}
 use Rattle.std.specs.declared.option.Option.{Option}
 use Rattle.std.specs.Io.KnownBytes.{Consumes, IsAtEnd}
 use Rattle.std.proofs.KnownBytes.{Consumes-trans}
-use Rattle.batch.specs.Batch.{number, Loses, EndsBefore, ReadsInto, NoCase}
+use Rattle.batch.specs.Batch.{number, Loses, EndsBefore, ReadsInto, Reads, NoCase}
+use Rattle.batch.specs.declared.Case.{Case}
 use Rattle.batch.specs.declared.Found.{Found}
 
 -- so many lost, and then a part more, which was read into the front of a space
@@ -28,6 +29,14 @@ ends_before (Some zs) rest e h = omega (arith, ap length e)
 -- a part that was read whole is what was lost
 pub lost_whole : (o a : Option (List ℕ)) (n : ℕ) (xs : List ℕ) → length xs ≤ n → Consumes o a (take n xs) → Consumes o a xs
 lost_whole o a n xs h c = subst (Consumes o a) (take_all n xs h) c
+
+-- A space that took a file's first bytes, all of them or as many as it had room for, has as much of the file as it holds.
+held : (kept room : ℕ) (xs after waste : List ℕ) → length xs ≡ kept → kept ≡ min (length (xs ++ waste)) room → take kept (xs ++ after) ≡ take room (xs ++ waste)
+held kept room xs after [] l h =
+    ap (λ n. take n (xs ++ after)) (sym l) ∙ take-append_seam xs after ∙ sym (append-nil xs) ∙ sym (take_all room (xs ++ []) (omega (arith, length-append xs [])))
+held kept room xs after (w ∷ ws) l h =
+    let full : kept ≡ room = omega (arith, length-append xs (w ∷ ws)) in
+    ap (λ n. take n (xs ++ after)) (sym l) ∙ take-append_seam xs after ∙ sym (take-append_seam xs (w ∷ ws)) ∙ ap (λ n. take n (xs ++ (w ∷ ws))) (l ∙ full)
 
 -- a head was read, and then m bytes into a part for `kept` bytes of a file of `size`
 pub record Begun (o a b : Option (List ℕ)) (head part : List ℕ) (room size kept m : ℕ) : Type 0 where
@@ -59,19 +68,40 @@ module _ {o a b : Option (List ℕ)} {head part : List ℕ} {room size kept m : 
   pub ended : EndsBefore b (size - kept) → NoCase o
   ended e = no_case (size - kept) e (omega (arith, p.within, p.part_long, p.held))
 
-  -- the whole case: its head, what the part took of its file, and what was passed over
-  pub read_whole : {new : Option (List ℕ)} {case : Found} (after : List ℕ) → kept ≤ m → Loses b new (size - kept) →
+  -- what the part took of its file and what was passed over are the file, and with its head what was lost
+  file_lost : (new : Option (List ℕ)) → kept ≤ m → (lost : Loses b new (size - kept)) → Consumes o new (head ++ (part ++ lost.0)) × (length (part ++ lost.0) ≡ size)
+  file_lost new all lost =
+      (Consumes-trans o a new head (part ++ lost.0) p.head_read (Consumes-trans a b new part lost.0 (lost_whole a b m part (omega (arith, p.part_long)) p.part_read) lost.1), omega (arith, length-append part lost.0, lost.2, p.part_long, p.held))
+
+  -- the whole case, with the file as it stands in the space
+  pub read_whole : {new : Option (List ℕ)} {case : Case} (after : List ℕ) → kept ≤ m → Loses b new (size - kept) →
+      case.file.now ≡ take kept (part ++ after) → case.entries ≡ number head 4 → case.bytes ≡ number head 8 → Reads o new room case
+  read_whole after all lost file entries bytes =
+      let whole = file_lost _ all lost in
+      record {
+        head = head;
+        file = part ++ lost.0;
+        lost = whole.0;
+        head_long = p.head_long;
+        file_long = whole.1 ∙ p.is;
+        kept = file ∙ held kept room part after lost.0 p.part_long (omega (arith, whole.1, p.held));
+        entries = entries;
+        bytes = bytes;
+      }
+
+  -- the same, by how much of its file the space holds
+  pub read_into : {new : Option (List ℕ)} {case : Found} (after : List ℕ) → kept ≤ m → Loses b new (size - kept) →
       length (part ++ after) ≡ room → case.kept ≡ kept → case.entries ≡ number head 4 → case.bytes ≡ number head 8 → ReadsInto o new (part ++ after) case
-  read_whole {new} {case} after all lost long found entries bytes =
-      let whole : length (part ++ lost.0) ≡ size = omega (arith, length-append part lost.0, lost.2, p.part_long, p.held) in
+  read_into {case = case} after all lost long found entries bytes =
+      let whole = file_lost _ all lost in
       let front : (rest : List ℕ) → take case.kept (part ++ rest) ≡ part = λ rest. ap (λ n. take n (part ++ rest)) (found ∙ sym p.part_long) ∙ take-append_seam part rest in
       record {
         head = head;
         file = part ++ lost.0;
-        lost = Consumes-trans o a new head (part ++ lost.0) p.head_read (Consumes-trans a b new part lost.0 (lost_whole a b m part (omega (arith, p.part_long)) p.part_read) lost.1);
+        lost = whole.0;
         head_long = p.head_long;
-        file_long = whole ∙ p.is;
-        kept = omega (arith, found, p.held, whole, long);
+        file_long = whole.1 ∙ p.is;
+        kept = omega (arith, found, p.held, whole.1, long);
         begins = front after ∙ sym (front lost.0);
         entries = entries;
         bytes = bytes;

@@ -1,5 +1,5 @@
 use Rattle.std.proofs.Common.{rules, arith, length, drop, refl, length-append, length-drop}
-use Rattle.batch.proofs.Cases.{Begun, lost_whole, cut_short, ended, read_whole}
+use Rattle.batch.proofs.Cases.{Begun, lost_whole, cut_short, ended, read_into}
 use Rattle.batch.proofs.read_case.Given as given
 use Rattle.batch.proofs.read_case.Goals as goal
 use Rattle.batch.proofs.read_case.Goals.{In_ok-m}
@@ -20,5 +20,5 @@ returns-clause-read g c =
     let b = begun g (goal.at.returns-clause-read g c).In_ok-m in
     let part = c.read_full-2.new.space in
     let after = drop c.min-kept.result c.args.space.now in
-    read_whole b after c.if-m-kept.false (c.in_ok-passed_over.ensures.passed c.if-not-branch.false)
+    read_into b after c.if-m-kept.false (c.in_ok-passed_over.ensures.passed c.if-not-branch.false)
     (omega (arith, b.held, b.part_long, length-append part after, length-drop c.min-kept.result c.args.space.now)) refl c.number_at.ensures c.number_at-2.ensures
