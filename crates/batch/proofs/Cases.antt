@@ -73,7 +73,7 @@ module _ {o a b : Option (List ℕ)} {head part : List ℕ} {room size kept m : 
   file_lost new all lost =
       (Consumes-trans o a new head (part ++ lost.0) p.head_read (Consumes-trans a b new part lost.0 (lost_whole a b m part (omega (arith, p.part_long)) p.part_read) lost.1), omega (arith, length-append part lost.0, lost.2, p.part_long, p.held))
 
-  -- the whole case, with the file as it stands in the space
+  -- the whole case: its head, what the part took of its file, and what was passed over
   pub read_whole : {new : Option (List ℕ)} {case : Case} (after : List ℕ) → kept ≤ m → Loses b new (size - kept) →
       case.file.now ≡ take kept (part ++ after) → case.entries ≡ number head 4 → case.bytes ≡ number head 8 → Reads o new room case
   read_whole after all lost file entries bytes =
